@@ -1,0 +1,27 @@
+//! From words to the instruction.
+
+use crate::instruction::{DecodeError, Instr};
+
+ghost use Rattle.std.specs.Prelude.{◌≡◌, ◌↔◌, ℕ, IfOk};
+ghost use Rattle.avr_isa.specs.declared.instruction.Instr.{Instr};
+ghost use Rattle.avr_isa.specs.Decoded.{decoded};
+ghost use Rattle.avr_isa.specs.Operands.{IsEncodable};
+ghost use Rattle.avr_isa.specs.Table.{HasNoRow, HasSecondWord, Row};
+
+/// The instruction that the words begin with, and its number of words.
+///
+/// `w1` is the word that follows `w0`. An instruction of one word does not look at it.
+pub fn decode(w0: u16, w1: Option<u16>) -> Result<(Instr, u8), DecodeError>
+    ensures ok { (i : Instr) (n : ℕ) → (result ≡ Ok (i, n)) ↔ Row w0 w1 i n }
+    ensures undefined { (result ≡ Err (DecodeError.Undefined w0)) ↔ HasNoRow w0 }
+    ensures needs_second { (result ≡ Err DecodeError.NeedsSecond) ↔ ((w1 ≡ None) × HasSecondWord w0) }
+
+    // The same as one equation, and that `encode` takes what is decoded.
+    ensures value { result ≡ decoded w0 w1 }
+    ensures encodable { IfOk result (λ found. IsEncodable found.0) }
+{
+    match w1 {
+        Some(_) => Err(DecodeError::Undefined(w0)),
+        None => Err(DecodeError::NeedsSecond),
+    }
+}
