@@ -1,0 +1,119 @@
+-- What one unit does.
+use Rattle.std.specs.Prelude.{ℕ, ◌+◌, ◌==◌, ◌&&◌, ◌||◌, nat_lt, nat_le, List, [], ◌∷◌, Bool, true, false, Option, Some, None, slice_get, find, option_and_then, unwrap_or}
+use Rattle.std.specs.List.{list_any}
+use Rattle.std.specs.Option.{option_map_or}
+use Rattle.avr_isa.specs.declared.instruction.Instr.{Instr}
+use Rattle.avr_isa.specs.declared.instruction.Instr.TheVariants.{Ldi, Mov, StX}
+use Rattle.mote_layout.specs.Blocks.{covers}
+use Rattle.mote_layout.specs.declared.segment.Segment.{Segment}
+use Rattle.domain_model.specs.declared.unit.Unit.{Unit}
+use Rattle.domain_model.specs.declared.unit.Unit.TheVariants.{Plain, Store, KernelCall, Return}
+use Rattle.domain_model.specs.declared.module.ModuleRow.{ModuleRow}
+use Rattle.domain_model.specs.declared.handler.Running.{Running}
+use Rattle.domain_model.specs.declared.fault.Rule.{Rule}
+use Rattle.domain_model.specs.declared.fault.Rule.TheVariants as rule
+use Rattle.domain_model.specs.declared.fault.UnitEnd.{UnitEnd}
+use Rattle.domain_model.specs.declared.fault.UnitEnd.TheVariants.{On, Over, Fault}
+use Rattle.domain_model.specs.declared.line.TraceLine.{TraceLine}
+use Rattle.domain_model.specs.declared.line.TraceLine.TheVariants as line
+use Rattle.domain_model.specs.State.{Processor, KernelState, RunnerState, register, with_register, pair, with_pair, with_byte, with_processor}
+use Rattle.domain_model.specs.Units.{say_call}
+
+-- Kernel and runner after a unit, the lines that it wrote, and how it ended.
+pub record Acted : Type 0 where
+  pub kernel : KernelState
+  pub runner : RunnerState
+  pub lines : List TraceLine
+  pub ending : UnitEnd
+
+-- the unit behind this one is next
+abbrev pub goes_on : KernelState → RunnerState → List TraceLine → Acted
+goes_on k r lines = record { kernel = k; runner = record r { unit = r.unit + 1 }; lines = lines; ending = On }
+
+-- the unit is refused, and changes nothing
+abbrev pub faults : Rule → ℕ → KernelState → RunnerState → Acted
+faults why address k r =
+    record { kernel = k; runner = r; lines = []; ending = Fault (record { rule = why; address = address }) }
+
+-- the handler returns
+abbrev pub returns : KernelState → RunnerState → Acted
+returns k r = record { kernel = k; runner = r; lines = []; ending = Over }
+
+-- The module that is loaded in a domain.
+abbrev pub module_at : List ModuleRow → ℕ → Option ModuleRow
+module_at modules domain = find (λ m. m.domain == domain) modules
+
+-- its id; 0 where there is none
+abbrev pub id_at : List ModuleRow → ℕ → ℕ
+id_at modules domain = option_map_or (λ (m : ModuleRow). m.id) 0 (module_at modules domain)
+
+-- The address lies in a block of the domain.
+abbrev pub owns : List Segment → ℕ → ℕ → Bool
+owns blocks domain address = list_any (λ s. s.owner == domain && covers s address) blocks
+
+-- Where the running domain may store: in its own blocks, and on its own part of the stack.
+abbrev pub may_store : KernelState → Running → ℕ → Bool
+may_store k run address =
+    owns k.blocks run.domain address || (nat_lt k.processor.sp address && nat_le address run.bound)
+
+-- What a load of a constant and a copy of a register do to the processor.
+abbrev pub plain_effect : Instr → Processor → Processor
+plain_effect (Ldi d k) p = with_register p d k
+plain_effect (Mov d r) p = with_register p d (register p r)
+plain_effect _ p = p
+
+-- The address that a store writes: X is R27:R26.
+abbrev pub store_address : Processor → ℕ
+store_address p = pair p 26
+
+-- The byte that a store writes.
+abbrev pub store_effect : Instr → Processor → Processor
+store_effect (StX r) p = with_byte p (store_address p) (register p r)
+store_effect _ p = p
+
+-- The answer of a kernel call is in R25:R24.
+abbrev pub answered : KernelState → ℕ → KernelState
+answered k answer = with_processor k (with_pair k.processor 24 answer)
+
+-- Each unit with a need, by whether it is met.
+
+abbrev pub act_store : Bool → Instr → KernelState → RunnerState → Acted
+act_store true i k r = goes_on (with_processor k (store_effect i k.processor)) r []
+act_store false i k r = faults rule.Store (store_address k.processor) k r
+
+abbrev pub act_return : Bool → KernelState → RunnerState → Acted
+act_return true k r = returns k r
+act_return false k r = faults rule.Balance k.processor.sp k r
+
+-- The kernel call `say` writes the byte in R24 and answers 0. A unit of another number is never there.
+abbrev pub act_call : Bool → Running → KernelState → RunnerState → Acted
+act_call true run k r =
+    goes_on (answered k 0) r (line.Say k.clock (id_at k.modules run.domain) (register k.processor 24) ∷ [])
+act_call false run k r = goes_on k r []
+
+abbrev pub act_unit : Unit → Running → KernelState → RunnerState → Acted
+act_unit (Plain i) run k r = goes_on (with_processor k (plain_effect i k.processor)) r []
+act_unit (Store i) run k r = act_store (may_store k run (store_address k.processor)) i k r
+act_unit (KernelCall n) run k r = act_call (n == say_call) run k r
+act_unit Return run k r = act_return (k.processor.sp == run.base) k r
+
+-- the units of a domain's module
+abbrev pub bank : RunnerState → ℕ → List Unit
+bank r domain = unwrap_or (slice_get r.banks domain) []
+
+-- the unit that runs next
+abbrev pub next_unit : RunnerState → Running → Option Unit
+next_unit r run = slice_get (bank r run.domain) r.unit
+
+-- In a state that a run reaches, a domain runs and has a next unit. Where not, nothing is left to do.
+abbrev pub act_at : Option Unit → Running → KernelState → RunnerState → Acted
+act_at None run k r = returns k r
+act_at (Some u) run k r = act_unit u run k r
+
+abbrev pub act_running : Option Running → KernelState → RunnerState → Acted
+act_running None k r = returns k r
+act_running (Some run) k r = act_at (next_unit r run) run k r
+
+-- What the next unit does.
+abbrev pub act : KernelState → RunnerState → Acted
+act k r = act_running k.running k r

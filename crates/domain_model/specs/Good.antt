@@ -1,0 +1,98 @@
+-- What every turn keeps.
+use Rattle.std.specs.Prelude.{◌≡◌, ◌≢◌, ℕ, ◌+◌, ◌^◌, ◌<◌, ◌≤◌, List, [], ◌∷◌, length, Option, Some, None, IsSome, true, false, ⊤}
+use Rattle.std.specs.List.{AllByRecursion}
+use Rattle.mote_layout.specs.Memory.{ram_bytes, domain_count, stack_top, floor}
+use Rattle.mote_layout.specs.Limits.{unit_limit, handler_limit}
+use Rattle.mote_layout.specs.Blocks.{AreBlocks}
+use Rattle.mote_layout.specs.declared.segment.Segment.{Segment}
+use Rattle.domain_model.specs.declared.unit.Unit.{Unit}
+use Rattle.domain_model.specs.declared.module.ModuleRow.{ModuleRow}
+use Rattle.domain_model.specs.declared.handler.Running.{Running}
+use Rattle.domain_model.specs.declared.handler.Message.{Message}
+use Rattle.domain_model.specs.declared.event.Event.{Event}
+use Rattle.domain_model.specs.Image.{Module, state_limit}
+use Rattle.domain_model.specs.Units.{AreProper}
+use Rattle.domain_model.specs.State.{Processor, KernelState, RunnerState, State}
+use Rattle.domain_model.specs.Act.{bank, next_unit}
+use Rattle.domain_model.specs.Turn.{is_loaded, in_use}
+
+-- The processor has 32 registers of a byte and 4096 bytes of memory.
+pub record GoodProcessor (p : Processor) : Type 0 where
+  pub registers : length p.registers ≡ 32
+  pub bytes : AllByRecursion (λ v. v < 256) p.registers
+  pub memory : length p.memory ≡ ram_bytes
+
+-- A module's id is 1 to 254, its domain a domain, and its handler one of the units in its bank.
+pub record GoodModule (r : RunnerState) (m : ModuleRow) : Type 0 where
+  pub least_id : 1 ≤ m.id
+  pub greatest_id : m.id ≤ 254
+  pub domain : m.domain < domain_count
+  pub units : AreProper (bank r m.domain)
+  pub handler : m.handler < length (bank r m.domain)
+
+-- No module behind this one has its id or its domain.
+abbrev pub IsApart : ModuleRow → ModuleRow → Type 0
+IsApart m n = (n.id ≢ m.id) × (n.domain ≢ m.domain)
+
+abbrev pub AreDistinct : List ModuleRow → Type 0
+AreDistinct [] = ⊤
+AreDistinct (m ∷ ms) = AllByRecursion (IsApart m) ms × AreDistinct ms
+
+-- Each block's owner is the domain of a loaded module. (There are no payloads yet, so the kernel has none.)
+abbrev pub AreOwned : List ModuleRow → List Segment → Type 0
+AreOwned modules blocks = AllByRecursion (λ b. in_use modules b.owner ≡ true) blocks
+
+-- In a handler a loaded domain runs, its next unit is one of its units, and the stack pointer is at its base,
+-- for no unit that is built moves it. The message in hand has that module as its receiver.
+pub record GoodRunning (k : KernelState) (r : RunnerState) (run : Running) : Type 0 where
+  pub loaded : in_use k.modules run.domain ≡ true
+  pub unit : r.unit < length (bank r run.domain)
+  pub floor : floor ≤ k.processor.sp
+  pub base : k.processor.sp ≤ run.base
+  pub bound : run.base ≤ run.bound
+  pub top : (run.base ≡ stack_top) × (run.bound ≡ stack_top)
+
+abbrev pub GoodHand : List ModuleRow → Option Message → Type 0
+GoodHand modules None = ⊥
+GoodHand modules (Some m) = is_loaded modules m.to ≡ true
+
+-- Outside a handler no message is in hand.
+abbrev pub GoodHandler : KernelState → RunnerState → Option Running → Type 0
+GoodHandler k r None = k.hand ≡ None
+GoodHandler k r (Some run) = GoodRunning k r run × GoodHand k.modules k.hand
+
+-- Kernel and runner together.
+pub record GoodMachine (k : KernelState) (r : RunnerState) : Type 0 where
+  pub processor : GoodProcessor k.processor
+  pub banks : length r.banks ≡ domain_count
+  pub modules : AllByRecursion (GoodModule r) k.modules
+  pub distinct : AreDistinct k.modules
+  pub blocks : AreBlocks k.blocks
+  pub owners : AreOwned k.modules k.blocks
+  pub handler : GoodHandler k r k.running
+
+-- A module that can be loaded.
+pub record GoodImage (m : Module) : Type 0 where
+  pub least_id : 1 ≤ m.id
+  pub greatest_id : m.id ≤ 254
+  pub size : m.state_size ≤ state_limit
+  pub units : AreProper m.units
+  pub handler : m.handler < length m.units
+
+abbrev pub IsGoodImage : Option Module → Type 0
+IsGoodImage None = ⊤
+IsGoodImage (Some m) = GoodImage m
+
+-- the times of events that are still to come
+abbrev pub AreTimes : List Event → Type 0
+AreTimes events = AllByRecursion (λ e. e.time < 2 ^ 32) events
+
+pub record Good (s : State) : Type 0 where
+  pub machine : GoodMachine s.kernel s.runner
+  pub images : AllByRecursion IsGoodImage s.images
+  pub times : AreTimes s.events
+  pub clock : s.kernel.clock < 2 ^ 32 + s.total
+  pub total : s.total ≤ s.unit_limit
+  pub units : s.unit_limit ≤ unit_limit
+  pub spent : s.spent ≤ s.handler_limit
+  pub handler : (1 ≤ s.handler_limit) × (s.handler_limit ≤ handler_limit)

@@ -1,0 +1,105 @@
+-- What holds of every turn of every run.
+use Rattle.std.specs.Prelude.{◌≡◌, ◌≢◌, ◌⊎◌, ℕ, ◌+◌, ◌≤◌, List, Option, Some, None, Contains, true, false, slice_index, ⊤}
+use Rattle.mote_layout.specs.Memory.{ram_start, red_zone_start, kernel_bytes_start, kernel_bytes_end, kernel}
+use Rattle.mote_layout.specs.declared.segment.Segment.{Segment}
+use Rattle.domain_model.specs.declared.module.ModuleRow.{ModuleRow}
+use Rattle.domain_model.specs.declared.handler.Running.{Running}
+use Rattle.domain_model.specs.declared.handler.Message.{Message}
+use Rattle.domain_model.specs.declared.event.Choice.TheVariants.{Acts}
+use Rattle.domain_model.specs.declared.event.Event.{Event}
+use Rattle.domain_model.specs.declared.fault.FaultNote.{FaultNote}
+use Rattle.domain_model.specs.declared.fault.UnitEnd.TheVariants.{On, Fault}
+use Rattle.domain_model.specs.declared.line.TraceLine.{TraceLine}
+use Rattle.domain_model.specs.declared.line.TraceLine.TheVariants as line
+use Rattle.domain_model.specs.State.{KernelState, RunnerState, State, Input}
+use Rattle.domain_model.specs.Act.{act, owns}
+use Rattle.domain_model.specs.Free.{enters_kernel}
+use Rattle.domain_model.specs.Turn.{choice, Turn, RunBy, RunFrom}
+use Rattle.domain_model.specs.Good.{Good}
+
+-- Confinement.
+
+-- What the running domain may change: the bytes of its blocks, and the stack up to its bound.
+abbrev pub MayChange : KernelState → Running → ℕ → Type 0
+MayChange k run address = (owns k.blocks run.domain address ≡ true) ⊎ ((red_zone_start ≤ address) × (address ≤ run.bound))
+
+-- The rest of the kernel's lists stays, and each byte that changes is one of these.
+pub record KeepsOthers (k : KernelState) (run : Running) (new : KernelState) : Type 0 where
+  pub blocks : new.blocks ≡ k.blocks
+  pub modules : new.modules ≡ k.modules
+  pub hand : new.hand ≡ k.hand
+  pub running : new.running ≡ k.running
+  pub memory : (i : ℕ) → slice_index new.processor.memory i ≢ slice_index k.processor.memory i → MayChange k run (i + ram_start)
+
+-- Where a unit faults, only dead bytes of the stack and the kernel's own bytes change.
+abbrev pub MayChangeAtFault : KernelState → ℕ → Type 0
+MayChangeAtFault k address =
+    ((red_zone_start ≤ address) × (address ≤ k.processor.sp)) ⊎ ((kernel_bytes_start ≤ address) × (address ≤ kernel_bytes_end))
+
+-- A unit that is no entry of the kernel changes what is the running domain's and nothing else, and a unit
+-- that faults changes none of the domains' bytes.
+pub record Confined (s t : State) : Type 0 where
+  pub between : (run : Running) → choice s ≡ Acts run → enters_kernel s.kernel s.runner ≡ false → KeepsOthers s.kernel run t.kernel
+  pub at_fault : (run : Running) (note : FaultNote) → choice s ≡ Acts run → (act s.kernel s.runner).ending ≡ Fault note → (i : ℕ) → slice_index t.kernel.processor.memory i ≢ slice_index s.kernel.processor.memory i → MayChangeAtFault s.kernel (i + ram_start)
+
+-- Crossing.
+
+-- A handler starts: a module that is loaded runs from its handler's unit, with a message to it in hand.
+pub record Dispatched (t : State) (run : Running) : Type 0 where
+  pub module : ModuleRow
+  pub message : Message
+  pub is_loaded : Contains t.kernel.modules module
+  pub domain : run.domain ≡ module.domain
+  pub unit : t.runner.unit ≡ module.handler
+  pub in_hand : t.kernel.hand ≡ Some message
+  pub receiver : message.to ≡ module.id
+
+-- The running domain changes only by a dispatch while none runs, and by the handler's end.
+abbrev pub CrossesBy : Option Running → Option Running → State → Type 0
+CrossesBy None None t = ⊤
+CrossesBy None (Some new) t = Dispatched t new
+CrossesBy (Some old) None t = t.kernel.hand ≡ None
+CrossesBy (Some old) (Some new) t = new.domain ≡ old.domain
+
+abbrev pub Crosses : State → State → Type 0
+Crosses s t = CrossesBy s.kernel.running t.kernel.running t
+
+-- Clean unload.
+
+-- Something still names the module or its domain.
+pub data Names (k : KernelState) (id domain : ℕ) : Type 0 where
+  a_module : (m : ModuleRow) → Contains k.modules m → (m.id ≡ id) ⊎ (m.domain ≡ domain) → Names k id domain
+  the_message : (m : Message) → k.hand ≡ Some m → (m.to ≡ id) ⊎ (m.from ≡ id) → Names k id domain
+  a_block : (b : Segment) → Contains k.blocks b → b.owner ≡ domain → Names k id domain
+  a_lost_payload : (b : Segment) → Contains k.blocks b → b.owner ≡ kernel → Names k id domain
+  the_running : (run : Running) → k.running ≡ Some run → run.domain ≡ domain → Names k id domain
+
+-- Where a turn says that a module is unloaded, nothing names it or the domain that it had.
+abbrev pub UnloadsCleanly : State → State → List TraceLine → Type 0
+UnloadsCleanly s t lines =
+    (time : ℕ) (m : ModuleRow) → Contains lines (line.Unload time m.id) → Contains s.kernel.modules m → ¬ Names t.kernel m.id m.domain
+
+-- A turn, with all that holds of it.
+pub record LawfulTurn (s t : State) (lines : List TraceLine) : Type 0 where
+  pub turn : Turn s t lines
+  pub good : Good t
+  pub confined : Confined s t
+  pub crosses : Crosses s t
+  pub unloads : UnloadsCleanly s t lines
+
+abbrev pub LawfulRunFrom : State → List TraceLine → Type 0
+LawfulRunFrom s lines = RunBy LawfulTurn s lines
+
+-- The laws of the machine.
+
+-- Every turn from a good state is lawful.
+abbrev pub TurnsAreLawful : Type 0
+TurnsAreLawful = (s t : State) (lines : List TraceLine) → Good s → Turn s t lines → LawfulTurn s t lines
+
+-- So is every turn of a run from one.
+abbrev pub RunsAreLawful : Type 0
+RunsAreLawful = (s : State) (lines : List TraceLine) → Good s → RunFrom s lines → LawfulRunFrom s lines
+
+-- From every good state there is a run to an end.
+abbrev pub RunsEnd : Type 0
+RunsEnd = (s : State) → Good s → (lines : List TraceLine) × RunFrom s lines

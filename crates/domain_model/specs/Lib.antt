@@ -1,0 +1,13 @@
+pub mod Bytes
+pub mod Command
+pub mod Script
+pub mod Image
+pub mod Units
+pub mod State
+pub mod Act
+pub mod Free
+pub mod Turn
+pub mod Good
+pub mod Laws
+pub mod Text
+pub mod Remaining

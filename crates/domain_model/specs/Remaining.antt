@@ -1,0 +1,27 @@
+-- How many turns may still come: it falls with each turn, so every run ends.
+use Rattle.std.specs.Prelude.{ℕ, ◌+◌, ◌-◌, ◌*◌, nat_lt, List, [], ◌∷◌, length, Bool, true, false, Option, Some, None, is_some}
+use Rattle.domain_model.specs.declared.event.Event.{Event}
+use Rattle.domain_model.specs.declared.event.Turned.{Turned}
+use Rattle.domain_model.specs.declared.event.Turned.TheVariants.{More, EndIdle, EndBudget}
+use Rattle.domain_model.specs.State.{State}
+
+abbrev pub one_if : Bool → ℕ
+one_if true = 1
+one_if false = 0
+
+-- the clock has still to jump to the next event
+abbrev pub is_late : List Event → ℕ → Bool
+is_late [] now = false
+is_late (e ∷ es) now = nat_lt now e.time
+
+abbrev pub goes_on : Turned → Bool
+goes_on More = true
+goes_on EndIdle = false
+goes_on EndBudget = false
+
+-- A unit pays for itself and for the end of its handler, an event for its handler and for the jump to the
+-- next event.
+unfoldable pub remaining : State → ℕ
+remaining s =
+    4 * (s.unit_limit - s.total) + 4 * length s.events + one_if (is_some s.kernel.running)
+    + one_if (is_late s.events s.kernel.clock) + one_if (goes_on s.ended)

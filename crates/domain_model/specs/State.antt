@@ -1,0 +1,132 @@
+-- The state of the machine.
+use Rattle.std.specs.Prelude.{ℕ, ◌+◌, ◌-◌, ◌*◌, ◌/◌, ◌%◌, List, [], ◌∷◌, ◌++◌, Option, None, Some, slice_index, slice_set, replicate, take, drop, map}
+use Rattle.mote_layout.specs.Memory.{ram_start, ram_bytes, message_frame_bytes, domain_count, stack_top}
+use Rattle.mote_layout.specs.declared.segment.Segment.{Segment}
+use Rattle.domain_model.specs.declared.unit.Unit.{Unit}
+use Rattle.domain_model.specs.declared.module.ModuleRow.{ModuleRow}
+use Rattle.domain_model.specs.declared.handler.Running.{Running}
+use Rattle.domain_model.specs.declared.handler.Message.{Message}
+use Rattle.domain_model.specs.declared.event.Event.{Event}
+use Rattle.domain_model.specs.declared.event.Turned.{Turned}
+use Rattle.domain_model.specs.declared.event.Turned.TheVariants.{More}
+use Rattle.domain_model.specs.Bytes.{low, high}
+use Rattle.domain_model.specs.Image.{Module, prepared}
+
+-- The processor: R0 to R31, the status register, the stack pointer, and the bytes of the memory.
+-- Byte i of the memory has the data address 0x0100 + i.
+pub record Processor : Type 0 where
+  pub registers : List ℕ
+  pub sreg : ℕ
+  pub sp : ℕ
+  pub memory : List ℕ
+
+-- What the kernel keeps: the clock, the processor, the owned blocks of the heap, the loaded modules in the
+-- order of their loads, the domain that runs, and the message in hand. Outside a handler no domain runs and
+-- no message is in hand, and the registers, SREG and SP mean nothing.
+pub record KernelState : Type 0 where
+  pub clock : ℕ
+  pub processor : Processor
+  pub blocks : List Segment
+  pub modules : List ModuleRow
+  pub running : Option Running
+  pub hand : Option Message
+
+-- What a runner keeps: the units of each domain's module, by domain, and the number of the unit that runs
+-- next.
+pub record RunnerState : Type 0 where
+  pub banks : List (List Unit)
+  pub unit : ℕ
+
+-- The whole: kernel and runner; the images by number, None for one that can't be loaded; the events of the
+-- script still to come; how many units a run and a handler may have, and have had; how the run stands.
+pub record State : Type 0 where
+  pub kernel : KernelState
+  pub runner : RunnerState
+  pub images : List (Option Module)
+  pub events : List Event
+  pub unit_limit : ℕ
+  pub handler_limit : ℕ
+  pub total : ℕ
+  pub spent : ℕ
+  pub ended : Turned
+
+-- What a run is given: the bytes of the images, the events of the script, and the two limits.
+pub record Input : Type 0 where
+  pub images : List (List ℕ)
+  pub events : List Event
+  pub unit_limit : ℕ
+  pub handler_limit : ℕ
+
+-- a register, and the registers with another value there
+abbrev pub register : Processor → ℕ → ℕ
+register p d = slice_index p.registers d
+
+abbrev pub with_register : Processor → ℕ → ℕ → Processor
+with_register p d v = record p { registers = slice_set p.registers d v }
+
+-- a pair of registers by its lower one, low byte first, and the processor with another word there
+abbrev pub pair : Processor → ℕ → ℕ
+pair p d = register p d + 256 * register p (d + 1)
+
+abbrev pub with_pair : Processor → ℕ → ℕ → Processor
+with_pair p d w = with_register (with_register p d (low w)) (d + 1) (high w)
+
+-- the processor with another byte at an address
+abbrev pub with_byte : Processor → ℕ → ℕ → Processor
+with_byte p a v = record p { memory = slice_set p.memory (a - ram_start) v }
+
+abbrev pub with_processor : KernelState → Processor → KernelState
+with_processor k p = record k { processor = p }
+
+-- n bytes from place i on are 0
+abbrev pub with_zeros : List ℕ → ℕ → ℕ → List ℕ
+with_zeros bytes i n = take i bytes ++ (replicate n 0 ++ drop (i + n) bytes)
+
+-- The message frame as a handler finds it: type, sender, receiver, 0 for a short message, its byte and its
+-- word low byte first, and nothing more.
+abbrev pub frame_of : Message → List ℕ
+frame_of m = m.sort ∷ m.from ∷ m.to ∷ 0 ∷ m.byte ∷ low m.word ∷ high m.word ∷ replicate 9 0
+
+-- The processor as a handler finds it: R23:R22 is the address of the message frame, R25:R24 that of the
+-- module's state block, every other register and SREG are 0, and the stack is empty.
+abbrev pub dispatched : Processor → ℕ → Message → Processor
+dispatched p state m =
+    with_pair (with_pair (record {
+      registers = replicate 32 0;
+      sreg = 0;
+      sp = stack_top;
+      memory = frame_of m ++ drop message_frame_bytes p.memory;
+    }) 22 ram_start) 24 state
+
+-- At the beginning every byte and register is 0. (Of the kernel's bytes and of the stack the first turns
+-- leave nothing that this says, since they are free.)
+unfoldable pub no_bytes : List ℕ
+no_bytes = replicate ram_bytes 0
+
+abbrev pub no_processor : Processor
+no_processor = record { registers = replicate 32 0; sreg = 0; sp = 0; memory = no_bytes }
+
+abbrev pub no_kernel : KernelState
+no_kernel = record { clock = 0; processor = no_processor; blocks = []; modules = []; running = None; hand = None }
+
+abbrev pub no_runner : RunnerState
+no_runner = record { banks = replicate domain_count []; unit = 0 }
+
+-- The state in which a run of prepared images begins.
+abbrev pub begins : List (Option Module) → List Event → ℕ → ℕ → State
+begins images events unit_limit handler_limit =
+    record {
+      kernel = no_kernel;
+      runner = no_runner;
+      images = images;
+      events = events;
+      unit_limit = unit_limit;
+      handler_limit = handler_limit;
+      total = 0;
+      spent = 0;
+      ended = More;
+    }
+
+-- The state in which a run begins.
+abbrev pub start : Input → State
+start i = begins (map prepared i.images) i.events i.unit_limit i.handler_limit

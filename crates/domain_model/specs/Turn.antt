@@ -1,0 +1,301 @@
+-- Turns and runs.
+use Rattle.std.specs.Prelude.{◌≡◌, ◌≢◌, ℕ, ◌+◌, ◌-◌, ◌==◌, ◌<◌, nat_le, not, List, [], ◌∷◌, ◌++◌, drop, filter, Bool, true, false, Option, Some, None, slice_get, slice_set, is_some, ⊤}
+use Rattle.std.specs.List.{list_any}
+use Rattle.mote_layout.specs.Memory.{ram_start, heap_start, heap_end, block_bytes, domain_count, stack_top, kernel_bytes_start, kernel_bytes_end}
+use Rattle.mote_layout.specs.Blocks.{block_address, inserted, without_owner}
+use Rattle.mote_layout.specs.Fit.{fit, blocks_for, least_of}
+use Rattle.mote_layout.specs.declared.segment.Segment.{Segment}
+use Rattle.domain_model.specs.declared.unit.Unit.{Unit}
+use Rattle.domain_model.specs.declared.module.ModuleRow.{ModuleRow}
+use Rattle.domain_model.specs.declared.handler.Running.{Running}
+use Rattle.domain_model.specs.declared.handler.Message.{Message}
+use Rattle.domain_model.specs.declared.event.Event.{Event}
+use Rattle.domain_model.specs.declared.event.What.{What}
+use Rattle.domain_model.specs.declared.event.What.TheVariants as what
+use Rattle.domain_model.specs.declared.event.Choice.{Choice}
+use Rattle.domain_model.specs.declared.event.Choice.TheVariants.{Stays, Comes, Jumps, Idles, Budgets, Watches, Acts}
+use Rattle.domain_model.specs.declared.event.Turned.{Turned}
+use Rattle.domain_model.specs.declared.event.Turned.TheVariants.{More, EndIdle, EndBudget}
+use Rattle.domain_model.specs.declared.fault.FaultNote.{FaultNote}
+use Rattle.domain_model.specs.declared.fault.Rule.TheVariants as rule
+use Rattle.domain_model.specs.declared.fault.UnitEnd.{UnitEnd}
+use Rattle.domain_model.specs.declared.fault.UnitEnd.TheVariants.{On, Over, Fault}
+use Rattle.domain_model.specs.declared.line.TraceLine.{TraceLine}
+use Rattle.domain_model.specs.declared.line.TraceLine.TheVariants as line
+use Rattle.domain_model.specs.Image.{Module}
+use Rattle.domain_model.specs.State.{KernelState, RunnerState, State, Input, start, dispatched, with_zeros}
+use Rattle.domain_model.specs.Act.{Acted, id_at}
+use Rattle.domain_model.specs.Free.{SameState, UnitStep, is_kernel_byte}
+
+-- The kernel's part of a turn.
+
+-- the lowest domain that no module is in
+abbrev pub in_use : List ModuleRow → ℕ → Bool
+in_use modules domain = list_any (λ m. m.domain == domain) modules
+
+abbrev pub free_domain : List ModuleRow → Option ℕ
+free_domain modules = least_of (λ domain. not (in_use modules domain)) 0 domain_count
+
+-- a module with that id is loaded
+abbrev pub is_loaded : List ModuleRow → ℕ → Bool
+is_loaded modules id = list_any (λ m. m.id == id) modules
+
+-- A state block: the blocks of the heap with it, the memory with its bytes cleared, and its address. A
+-- module that asks for no byte has none and the address 0.
+pub record Given : Type 0 where
+  pub blocks : List Segment
+  pub memory : List ℕ
+  pub address : ℕ
+
+abbrev pub given_at : Option ℕ → KernelState → ℕ → ℕ → Option Given
+given_at None k domain count = None
+given_at (Some first) k domain count =
+    Some (record {
+      blocks = inserted (record { first = first; count = count; owner = domain }) k.blocks;
+      memory = with_zeros k.processor.memory (block_address first - ram_start) (block_bytes * count);
+      address = block_address first;
+    })
+
+abbrev pub given_where : Bool → KernelState → ℕ → ℕ → Option Given
+given_where true k domain size = Some (record { blocks = k.blocks; memory = k.processor.memory; address = 0 })
+given_where false k domain size = given_at (fit k.blocks (blocks_for size)) k domain (blocks_for size)
+
+abbrev pub given : KernelState → ℕ → ℕ → Option Given
+given k domain size = given_where (size == 0) k domain size
+
+-- the module is in
+abbrev pub admitted : KernelState → ModuleRow → Given → KernelState
+admitted k row g =
+    record k {
+      processor = record k.processor { memory = g.memory };
+      blocks = g.blocks;
+      modules = k.modules ++ row ∷ [];
+    }
+
+-- the handler of a module starts with a message
+abbrev pub begun : KernelState → ModuleRow → Message → KernelState
+begun k row m =
+    record k {
+      processor = dispatched k.processor row.state m;
+      running = Some (record { domain = row.domain; base = stack_top; bound = stack_top });
+      hand = Some m;
+    }
+
+-- the handler is over
+abbrev pub handler_ended : KernelState → KernelState
+handler_ended k = record k { running = None; hand = None }
+
+-- the module in a domain is out, and its blocks are free
+abbrev pub without_domain : ℕ → List ModuleRow → List ModuleRow
+without_domain domain modules = filter (λ m. not (m.domain == domain)) modules
+
+abbrev pub purged : KernelState → ℕ → KernelState
+purged k domain =
+    record k { modules = without_domain domain k.modules; blocks = without_owner domain k.blocks }
+
+abbrev pub at_clock : KernelState → ℕ → KernelState
+at_clock k now = record k { clock = now }
+
+-- The runner's part of a turn.
+
+-- other units stand in a domain
+abbrev pub placed : RunnerState → ℕ → List Unit → RunnerState
+placed r domain units = record r { banks = slice_set r.banks domain units }
+
+-- no units stand there
+abbrev pub emptied : RunnerState → ℕ → RunnerState
+emptied r domain = placed r domain []
+
+-- another unit is next
+abbrev pub entered : RunnerState → ℕ → RunnerState
+entered r unit = record r { unit = unit }
+
+-- Which turn comes next: the first of these that applies.
+
+-- Outside a handler: a due event; else the clock jumps to the next event; else the run ends.
+abbrev pub choose_event : Bool → Event → Choice
+choose_event true e = Comes e
+choose_event false e = Jumps e.time
+
+abbrev pub choose_outside : List Event → ℕ → Choice
+choose_outside [] now = Idles
+choose_outside (e ∷ es) now = choose_event (nat_le e.time now) e
+
+-- In a handler: the run ends where its budget is spent; else the watchdog strikes where the handler's is;
+-- else a unit runs.
+abbrev pub choose_unit : Bool → Running → Choice
+choose_unit true run = Watches run
+choose_unit false run = Acts run
+
+abbrev pub choose_inside : Bool → Running → State → Choice
+choose_inside true run s = Budgets
+choose_inside false run s = choose_unit (s.spent == s.handler_limit) run
+
+abbrev pub choose_running : Option Running → State → Choice
+choose_running None s = choose_outside s.events s.kernel.clock
+choose_running (Some run) s = choose_inside (s.total == s.unit_limit) run s
+
+abbrev pub choose_ended : Turned → State → Choice
+choose_ended More s = choose_running s.kernel.running s
+choose_ended EndIdle s = Stays
+choose_ended EndBudget s = Stays
+
+abbrev pub choice : State → Choice
+choice s = choose_ended s.ended s
+
+-- What a turn makes of kernel and runner, and the lines that it writes.
+pub record Moved : Type 0 where
+  pub kernel : KernelState
+  pub runner : RunnerState
+  pub lines : List TraceLine
+
+-- nothing but the line of a refused load
+abbrev pub refused : ℕ → ℕ → KernelState → RunnerState → Moved
+refused number image k r =
+    record { kernel = k; runner = r; lines = line.Refused k.clock image number 0 0 0 ∷ [] }
+
+-- INIT, the message that the kernel starts a module with: a short message of type 0 from sender 0
+abbrev pub init_to : ℕ → Message
+init_to id = record { to = id; from = 0; sort = 0; byte = 0; word = 0 }
+
+-- the module is loaded, and its handler starts at once
+abbrev pub row_of : Module → ℕ → Given → ModuleRow
+row_of m domain g = record { id = m.id; domain = domain; state = g.address; handler = m.handler }
+
+abbrev pub loaded : Module → ℕ → Given → KernelState → RunnerState → Moved
+loaded m domain g k r =
+    record {
+      kernel = begun (admitted k (row_of m domain g) g) (row_of m domain g) (init_to m.id);
+      runner = entered (placed r domain m.units) m.handler;
+      lines = line.Load k.clock m.id domain g.address ∷ line.Run k.clock m.id 0 0 ∷ [];
+    }
+
+-- A load is refused as 4 where a module with the id is loaded, else as 5 where no domain is free, else as 6
+-- where no run of blocks is long enough for the state.
+abbrev pub load_given : Option Given → Module → ℕ → ℕ → KernelState → RunnerState → Moved
+load_given None m domain image k r = refused 6 image k r
+load_given (Some g) m domain image k r = loaded m domain g k r
+
+abbrev pub load_in : Option ℕ → Module → ℕ → KernelState → RunnerState → Moved
+load_in None m image k r = refused 5 image k r
+load_in (Some domain) m image k r = load_given (given k domain m.state_size) m domain image k r
+
+abbrev pub load_new : Bool → Module → ℕ → KernelState → RunnerState → Moved
+load_new true m image k r = refused 4 image k r
+load_new false m image k r = load_in (free_domain k.modules) m image k r
+
+-- An image that can't be loaded is not run: the command refuses it. So nothing is said of its load.
+abbrev pub load_image : Option (Option Module) → ℕ → KernelState → RunnerState → Moved
+load_image None image k r = record { kernel = k; runner = r; lines = [] }
+load_image (Some None) image k r = record { kernel = k; runner = r; lines = [] }
+load_image (Some (Some m)) image k r = load_new (is_loaded k.modules m.id) m image k r
+
+abbrev pub came : List (Option Module) → What → KernelState → RunnerState → Moved
+came images (what.Load n) k r = load_image (slice_get images n) n k r
+
+-- A handler that faults is over, and its module is purged.
+abbrev pub faulted : FaultNote → Running → KernelState → RunnerState → List TraceLine → Moved
+faulted note run k r lines =
+    record {
+      kernel = purged (handler_ended k) run.domain;
+      runner = emptied r run.domain;
+      lines = lines
+          ++ line.Fault k.clock note.rule (id_at k.modules run.domain) r.unit note.address
+          ∷ line.Unload k.clock (id_at k.modules run.domain) ∷ [];
+    }
+
+-- After a unit, by its end.
+abbrev pub settled : UnitEnd → Running → KernelState → RunnerState → List TraceLine → Moved
+settled On run k r lines = record { kernel = k; runner = r; lines = lines }
+settled Over run k r lines =
+    record {
+      kernel = handler_ended k;
+      runner = r;
+      lines = lines ++ line.Done k.clock (id_at k.modules run.domain) ∷ [];
+    }
+settled (Fault note) run k r lines = faulted note run k r lines
+
+-- The state after a turn, and its lines.
+pub record Made : Type 0 where
+  pub state : State
+  pub lines : List TraceLine
+
+abbrev pub made_of : State → Moved → Made
+made_of s m = record { state = record s { kernel = m.kernel; runner = m.runner }; lines = m.lines }
+
+-- a unit ran: the clock and the counts of units rise by one
+abbrev pub counted : State → Moved → Made
+counted s m =
+    record {
+      state = record s {
+        kernel = at_clock m.kernel (m.kernel.clock + 1);
+        runner = m.runner;
+        total = s.total + 1;
+        spent = s.spent + 1;
+      };
+      lines = m.lines;
+    }
+
+-- the watchdog's fault
+abbrev pub watchdog : State → FaultNote
+watchdog s = record { rule = rule.Watchdog; address = s.kernel.processor.sp }
+
+-- What each turn makes of the state. The last argument is what the unit does, where one runs.
+abbrev pub made : Choice → State → Acted → Made
+made Stays s got = record { state = s; lines = [] }
+made (Comes e) s got =
+    made_of (record s { events = drop 1 s.events; spent = 0 }) (came s.images e.what s.kernel s.runner)
+made (Jumps now) s got = record { state = record s { kernel = at_clock s.kernel now }; lines = [] }
+made Idles s got = record { state = record s { ended = EndIdle }; lines = line.EndIdle s.kernel.clock ∷ [] }
+made Budgets s got = record { state = record s { ended = EndBudget }; lines = line.EndBudget s.kernel.clock ∷ [] }
+made (Watches run) s got = made_of s (faulted (watchdog s) run s.kernel s.runner [])
+made (Acts run) s got = counted s (settled got.ending run got.kernel got.runner got.lines)
+
+-- What the turn leaves open: a unit what its step does; a turn of an ended run nothing; every other turn is
+-- an entry of the kernel, and leaves the kernel's bytes.
+abbrev pub May : Choice → State → Acted → Type 0
+May Stays s got = ⊤
+May (Comes e) s got = ⊤
+May (Jumps now) s got = ⊤
+May Idles s got = ⊤
+May Budgets s got = ⊤
+May (Watches run) s got = ⊤
+May (Acts run) s got = UnitStep s.kernel s.runner got
+
+abbrev pub Leaves : Choice → State → State → Type 0
+Leaves Stays want t = t ≡ want
+Leaves (Comes e) want t = SameState is_kernel_byte want t
+Leaves (Jumps now) want t = SameState is_kernel_byte want t
+Leaves Idles want t = SameState is_kernel_byte want t
+Leaves Budgets want t = SameState is_kernel_byte want t
+Leaves (Watches run) want t = SameState is_kernel_byte want t
+Leaves (Acts run) want t = t ≡ want
+
+-- A turn may lead from s to t and write these lines.
+pub record Turn (s t : State) (lines : List TraceLine) : Type 0 where
+  pub got : Acted
+  pub may : May (choice s) s got
+  pub to : Leaves (choice s) (made (choice s) s got).state t
+  pub tells : lines ≡ (made (choice s) s got).lines
+
+-- Turns one after the other, to an end. Each meets the relation.
+pub data RunBy : (State → State → List TraceLine → Type 0) → State → List TraceLine → Type 0 where
+  over : {T : State → State → List TraceLine → Type 0} {s : State} → s.ended ≢ More → RunBy T s []
+  more : {T : State → State → List TraceLine → Type 0} {s t : State} {lines rest : List TraceLine} → s.ended ≡ More → T s t lines → RunBy T t rest → RunBy T s (lines ++ rest)
+
+abbrev pub RunFrom : State → List TraceLine → Type 0
+RunFrom s lines = RunBy Turn s lines
+
+-- A run may begin in a state that is `start` but for the bytes of which nothing is said: the kernel's bytes,
+-- the red zone and the stack.
+abbrev pub is_unstated : ℕ → Bool
+is_unstated address = is_kernel_byte address || not (nat_le address heap_end)
+
+pub record IsStart (i : Input) (s : State) : Type 0 where
+  pub same : SameState is_unstated (start i) s
+
+-- The lines of a run of an input.
+pub record Run (i : Input) (lines : List TraceLine) : Type 0 where
+  pub first : State
+  pub begins : IsStart i first
+  pub turns : RunFrom first lines

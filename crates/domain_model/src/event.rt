@@ -1,0 +1,48 @@
+//! The events of a script, and the turns of a run.
+
+use crate::handler::Running;
+
+/// What an event of the script asks for.
+#[derive(Clone, Copy, Debug, PartialEq, Eq)]
+pub enum What {
+    /// Load the image with this number, counted from 0.
+    Load(u8),
+}
+
+/// A line of the script.
+#[derive(Clone, Copy, Debug, PartialEq, Eq)]
+pub struct Event {
+    /// The clock from which on the event is due, in units.
+    pub time: u64,
+    pub what: What,
+}
+
+/// How a run stands after a turn.
+#[derive(Clone, Copy, Debug, PartialEq, Eq)]
+pub enum Turned {
+    /// There is more to come.
+    More,
+    /// Nothing was left to do.
+    EndIdle,
+    /// The budget of units was spent in a handler.
+    EndBudget,
+}
+
+/// Which turn comes next.
+#[derive(Clone, Copy, Debug, PartialEq, Eq)]
+pub enum Choice {
+    /// The run has ended, and stays so.
+    Stays,
+    /// An event of the script is due.
+    Comes(Event),
+    /// Nothing is due: the clock becomes this time.
+    Jumps(u64),
+    /// Nothing is due or to come: the run ends.
+    Idles,
+    /// The budget of units is spent: the run ends.
+    Budgets,
+    /// The handler has run as many units as it may: the watchdog stops it.
+    Watches(Running),
+    /// One unit runs.
+    Acts(Running),
+}

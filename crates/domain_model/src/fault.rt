@@ -1,0 +1,41 @@
+//! Why a handler is stopped.
+
+/// The need of a unit that was not met, or the watchdog.
+#[derive(Clone, Copy, Debug, PartialEq, Eq)]
+pub enum Rule {
+    /// A store to an address that is not the domain's.
+    Store,
+    /// The stack would pass its floor.
+    StackOver,
+    /// The stack would pass the base of the running domain.
+    StackUnder,
+    /// Too many frames.
+    Depth,
+    /// A return with the stack pointer off its base.
+    Balance,
+    /// The handler ran as many units as one handler may.
+    Watchdog,
+    /// A kernel call with a block that is not the caller's.
+    Owner,
+    /// An indirect call of no slot.
+    Target,
+}
+
+/// A fault and its address.
+#[derive(Clone, Copy, Debug, PartialEq, Eq)]
+pub struct FaultNote {
+    pub rule: Rule,
+    /// The refused address of a store; the stack pointer for the watchdog and an unbalanced return.
+    pub address: u16,
+}
+
+/// How a unit ended.
+#[derive(Clone, Copy, Debug, PartialEq, Eq)]
+pub enum UnitEnd {
+    /// The handler goes on.
+    On,
+    /// The handler returned.
+    Over,
+    /// The unit was refused.
+    Fault(FaultNote),
+}

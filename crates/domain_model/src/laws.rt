@@ -1,0 +1,24 @@
+//! The laws of the machine. Each stands over the definitions alone.
+ghost use Rattle.domain_model.specs.Image.{ImagesAreTheirFields};
+ghost use Rattle.domain_model.specs.Laws.{TurnsAreLawful, RunsAreLawful, RunsEnd};
+
+/// Law: every turn from a good state keeps it good, is confined to what is the running domain's, changes the
+/// running domain only by a dispatch or the handler's end, and unloads cleanly; and so does every turn of a
+/// run from a good state.
+pub fn every_turn_is_lawful()
+    ensures turns { TurnsAreLawful }
+    ensures runs { RunsAreLawful }
+{
+}
+
+/// Law: from every good state there is a run to an end.
+pub fn every_good_state_runs_to_an_end()
+    ensures { RunsEnd }
+{
+}
+
+/// Law: what is read from an image's bytes are the fields that they were written from.
+pub fn images_are_their_fields()
+    ensures { ImagesAreTheirFields }
+{
+}

@@ -1,0 +1,36 @@
+//! The machine of domains: what a run of the mote is, apart from the code that makes one.
+//!
+//! The definitions in `specs/` say what a state is, what one unit of a module's code does, which turn comes
+//! next, what it makes of the state, and which lines a run of turns writes. The code above is proved against
+//! them, and nothing in them speaks of that code.
+//!
+//! - `State`: the processor, the kernel's lists, the units of the loaded modules, and what is still to come.
+//! - `Units`, `Image`, `Script`, `Command`: what the words of a module, an image file, a script file and the
+//!   words of the command line mean.
+//! - `Act`: what one unit does. `Free`: the bytes whose values a run leaves open.
+//! - `Turn`: which turn comes next, what it does, and the runs of turns. `Text`: the bytes of a trace.
+//! - `Good`: what every turn keeps. `Laws`: what holds of each turn of each run.
+//!
+//! The types here are plain data that definitions and code share. The laws of the machine are the contracts
+//! of the functions of `laws`.
+#![tactic(auto)]
+
+mod event;
+mod fault;
+mod handler;
+mod laws;
+mod line;
+mod lines;
+mod module;
+mod request;
+mod unit;
+
+pub use event::{Choice, Event, Turned, What};
+pub use fault::{FaultNote, Rule, UnitEnd};
+pub use handler::{Message, Running};
+pub use laws::{every_good_state_runs_to_an_end, every_turn_is_lawful, images_are_their_fields};
+pub use line::TraceLine;
+pub use lines::Lines;
+pub use module::ModuleRow;
+pub use request::Kind;
+pub use unit::Unit;

@@ -1,0 +1,8 @@
+//! The commands.
+
+/// What the words of the command line ask for.
+#[derive(Clone, Copy, Debug, PartialEq, Eq)]
+pub enum Kind {
+    /// Run a script over an image.
+    Run,
+}
