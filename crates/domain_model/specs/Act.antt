@@ -45,7 +45,7 @@ module_at modules domain = find (λ m. m.domain == domain) modules
 
 -- its id; 0 where there is none
 abbrev pub id_at : List ModuleRow → ℕ → ℕ
-id_at modules domain = option_map_or (λ (m : ModuleRow). m.id) 0 (module_at modules domain)
+id_at modules domain = option_map_or (λ (m : ModuleRow). m.id) (module_at modules domain) 0
 
 -- The address lies in a block of the domain.
 abbrev pub owns : List Segment → ℕ → ℕ → Bool

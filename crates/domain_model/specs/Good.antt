@@ -10,16 +10,15 @@ use Rattle.domain_model.specs.declared.module.ModuleRow.{ModuleRow}
 use Rattle.domain_model.specs.declared.handler.Running.{Running}
 use Rattle.domain_model.specs.declared.handler.Message.{Message}
 use Rattle.domain_model.specs.declared.event.Event.{Event}
-use Rattle.domain_model.specs.Image.{Module, state_limit}
+use Rattle.domain_model.specs.Image.{Module}
 use Rattle.domain_model.specs.Units.{AreProper}
 use Rattle.domain_model.specs.State.{Processor, KernelState, RunnerState, State}
 use Rattle.domain_model.specs.Act.{bank, next_unit}
 use Rattle.domain_model.specs.Turn.{is_loaded, in_use}
 
--- The processor has 32 registers of a byte and 4096 bytes of memory.
+-- The processor has 32 registers and 4096 bytes of memory.
 pub record GoodProcessor (p : Processor) : Type 0 where
   pub registers : length p.registers ≡ 32
-  pub bytes : AllByRecursion (λ v. v < 256) p.registers
   pub memory : length p.memory ≡ ram_bytes
 
 -- A module's id is 1 to 254, its domain a domain, and its handler one of the units in its bank.
@@ -75,7 +74,6 @@ pub record GoodMachine (k : KernelState) (r : RunnerState) : Type 0 where
 pub record GoodImage (m : Module) : Type 0 where
   pub least_id : 1 ≤ m.id
   pub greatest_id : m.id ≤ 254
-  pub size : m.state_size ≤ state_limit
   pub units : AreProper m.units
   pub handler : m.handler < length m.units
 

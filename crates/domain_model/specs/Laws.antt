@@ -46,13 +46,13 @@ pub record Confined (s t : State) : Type 0 where
 
 -- A handler starts: a module that is loaded runs from its handler's unit, with a message to it in hand.
 pub record Dispatched (t : State) (run : Running) : Type 0 where
-  pub module : ModuleRow
+  pub row : ModuleRow
   pub message : Message
-  pub is_loaded : Contains t.kernel.modules module
-  pub domain : run.domain ≡ module.domain
-  pub unit : t.runner.unit ≡ module.handler
+  pub is_loaded : Contains t.kernel.modules row
+  pub domain : run.domain ≡ row.domain
+  pub unit : t.runner.unit ≡ row.handler
   pub in_hand : t.kernel.hand ≡ Some message
-  pub receiver : message.to ≡ module.id
+  pub receiver : message.to ≡ row.id
 
 -- The running domain changes only by a dispatch while none runs, and by the handler's end.
 abbrev pub CrossesBy : Option Running → Option Running → State → Type 0

@@ -1,5 +1,5 @@
 -- Turns and runs.
-use Rattle.std.specs.Prelude.{◌≡◌, ◌≢◌, ℕ, ◌+◌, ◌-◌, ◌==◌, ◌<◌, nat_le, not, List, [], ◌∷◌, ◌++◌, drop, filter, Bool, true, false, Option, Some, None, slice_get, slice_set, is_some, ⊤}
+use Rattle.std.specs.Prelude.{◌≡◌, ◌≢◌, ℕ, ◌+◌, ◌-◌, ◌*◌, ◌==◌, ◌||◌, nat_le, not, List, [], ◌∷◌, ◌++◌, drop, filter, Bool, true, false, Option, Some, None, slice_get, slice_set, is_some, ⊤}
 use Rattle.std.specs.List.{list_any}
 use Rattle.mote_layout.specs.Memory.{ram_start, heap_start, heap_end, block_bytes, domain_count, stack_top, kernel_bytes_start, kernel_bytes_end}
 use Rattle.mote_layout.specs.Blocks.{block_address, inserted, without_owner}
@@ -279,9 +279,9 @@ pub record Turn (s t : State) (lines : List TraceLine) : Type 0 where
   pub tells : lines ≡ (made (choice s) s got).lines
 
 -- Turns one after the other, to an end. Each meets the relation.
-pub data RunBy : (State → State → List TraceLine → Type 0) → State → List TraceLine → Type 0 where
-  over : {T : State → State → List TraceLine → Type 0} {s : State} → s.ended ≢ More → RunBy T s []
-  more : {T : State → State → List TraceLine → Type 0} {s t : State} {lines rest : List TraceLine} → s.ended ≡ More → T s t lines → RunBy T t rest → RunBy T s (lines ++ rest)
+pub data RunBy (T : State → State → List TraceLine → Type 0) : State → List TraceLine → Type 0 where
+  over : {s : State} → s.ended ≢ More → RunBy T s []
+  more : {s : State} (t : State) (lines rest : List TraceLine) → s.ended ≡ More → T s t lines → RunBy T t rest → RunBy T s (lines ++ rest)
 
 abbrev pub RunFrom : State → List TraceLine → Type 0
 RunFrom s lines = RunBy Turn s lines

@@ -8,17 +8,14 @@ ghost use Rattle.domain_model.specs.Laws.{TurnsAreLawful, RunsAreLawful, RunsEnd
 pub fn every_turn_is_lawful()
     ensures turns { TurnsAreLawful }
     ensures runs { RunsAreLawful }
-{
-}
+{}
 
 /// Law: from every good state there is a run to an end.
 pub fn every_good_state_runs_to_an_end()
     ensures { RunsEnd }
-{
-}
+{}
 
 /// Law: what is read from an image's bytes are the fields that they were written from.
 pub fn images_are_their_fields()
     ensures { ImagesAreTheirFields }
-{
-}
+{}

@@ -29,9 +29,16 @@ pub enum TraceLine {
         from: u8,
     },
     /// A module said a byte.
-    Say { time: u64, id: u8, byte: u8 },
+    Say {
+        time: u64,
+        id: u8,
+        byte: u8,
+    },
     /// A handler ended by its return.
-    Done { time: u64, id: u8 },
+    Done {
+        time: u64,
+        id: u8,
+    },
     /// A handler was stopped.
     Fault {
         time: u64,
@@ -41,9 +48,16 @@ pub enum TraceLine {
         address: u16,
     },
     /// A module was purged.
-    Unload { time: u64, id: u8 },
+    Unload {
+        time: u64,
+        id: u8,
+    },
     /// The run ended, for nothing was left to do.
-    EndIdle { time: u64 },
+    EndIdle {
+        time: u64,
+    },
     /// The run ended, for its budget of units was spent.
-    EndBudget { time: u64 },
+    EndBudget {
+        time: u64,
+    },
 }
