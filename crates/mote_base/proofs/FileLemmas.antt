@@ -1,5 +1,5 @@
 -- The first file of a name, by its index.
-use Rattle.std.proofs.Common.{◌≡◌, ◌<◌, ◌+◌, ◌∙◌, sym, ap, length, drop, get_or, Some, ℕ, suc, true, List, ◌∷◌, Vec, if◌then◌else◌}
+use Rattle.std.proofs.Common.{◌≡◌, ◌<◌, ◌∙◌, sym, ap, length, drop, get_or, Some, ℕ, suc, true, List, ◌∷◌, Vec, if◌then◌else◌}
 use Rattle.std.proofs.Math.Seq.{drop-cons}
 use Rattle.std.specs.Str.{bytes_eq}
 use Rattle.std.specs.declared.alloc.Global.{Global}

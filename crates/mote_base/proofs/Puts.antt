@@ -1,6 +1,6 @@
 -- How puts one after the other go together.
-use Rattle.std.proofs.Common.{◌≡◌, ◌⊎◌, ◌+◌, ◌≤◌, ℕ, Bool, true, false, List, [], ◌∷◌, ◌++◌, Option, Some, Result, Ok, Err, refl, sym, ap, subst, inl, inr, ◌∙◌, append_assoc, append-nil}
-use Rattle.std.specs.Prelude.{OnOk, OnErr, is_ok}
+use Rattle.std.proofs.Common.{◌≡◌, ◌≤◌, ℕ, Bool, true, false, List, [], ◌∷◌, ◌++◌, Option, Some, Result, Ok, Err, refl, sym, ap, subst, inl, inr, ◌∙◌, append_assoc, append-nil}
+use Rattle.std.specs.Prelude.{OnOk, OnErr, IsErr, is_ok}
 use Rattle.mote_base.specs.Causes.{Rose, HasCause}
 use Rattle.mote_base.specs.Written.{Grows, GrowsByPart, Calls, joined, InPieces, Wrote, Broke, Puts}
 
@@ -49,16 +49,21 @@ wrote_none k = record {
   puts = record { pieces = []; calls = (refl, refl); whole = refl };
 }
 
--- One put, by the clauses of its contract.
-pub puts_one : {K T E : Type 0} (w : K → Option (List ℕ)) (f : K → ℕ) (l : K → List ℕ → Bool → K → Type 0) (old new : K) (piece : List ℕ) (r : Result T E) → OnOk r (Grows (w old) (w new) piece) → OnErr r (GrowsByPart (w old) (w new) piece) → HasCause (f old) (f new) r → l old piece (is_ok r) new → Puts w f l old new piece r
-puts_one w f l old new piece (Ok x) ok partly cause led = record {
-  wrote = record { grows = ok; kept = cause.kept; puts = pieces_one old new piece true led };
-  broke = tt;
-}
-puts_one w f l old new piece (Err e) ok partly cause led = record {
-  wrote = tt;
-  broke = record { grows = partly; later = cause.later; rose = cause.failed; puts = pieces_one old new piece false led };
-}
+-- One put, by the clauses of its contract: at an Ok, at an Err, and at either.
+pub wrote_one : {K : Type 0} {w : K → Option (List ℕ)} {f : K → ℕ} {l : K → List ℕ → Bool → K → Type 0} {old new : K} {piece : List ℕ} → Grows (w old) (w new) piece → f new ≡ f old → l old piece true new → Wrote w f l old new piece
+wrote_one {old = old} {new = new} {piece = piece} grows kept led = record { grows = grows; kept = kept; puts = pieces_one old new piece true led }
+
+pub broke_one : {K : Type 0} {w : K → Option (List ℕ)} {f : K → ℕ} {l : K → List ℕ → Bool → K → Type 0} {old new : K} {piece : List ℕ} → GrowsByPart (w old) (w new) piece → f old ≤ f new → Rose (f old) (f new) → l old piece false new → Broke w f l old new piece
+broke_one {old = old} {new = new} {piece = piece} part later rose led = record { grows = part; later = later; rose = rose; puts = pieces_one old new piece false led }
+
+pub puts_one : {K T E : Type 0} {w : K → Option (List ℕ)} {f : K → ℕ} {l : K → List ℕ → Bool → K → Type 0} {old new : K} {piece : List ℕ} {r : Result T E} → OnOk r (Grows (w old) (w new) piece) → OnErr r (GrowsByPart (w old) (w new) piece) → HasCause (f old) (f new) r → l old piece (is_ok r) new → Puts w f l old new piece r
+puts_one {r = Ok x} ok partly cause led = record { wrote = wrote_one ok cause.kept led; broke = tt }
+puts_one {r = Err e} ok partly cause led = record { wrote = tt; broke = broke_one partly cause.later cause.failed led }
+
+-- What broke off is an answer that is an Err.
+pub puts_err : {K T E : Type 0} {w : K → Option (List ℕ)} {f : K → ℕ} {l : K → List ℕ → Bool → K → Type 0} {old new : K} {s : List ℕ} {r : Result T E} → IsErr r → Broke w f l old new s → Puts w f l old new s r
+puts_err {r = Ok x} err p = cc
+puts_err {r = Err e} err p = record { wrote = tt; broke = p }
 
 -- A text, and then another.
 pub wrote_then : {K : Type 0} {w : K → Option (List ℕ)} {f : K → ℕ} {l : K → List ℕ → Bool → K → Type 0} {a b c : K} {s t : List ℕ} → Wrote w f l a b s → Wrote w f l b c t → Wrote w f l a c (s ++ t)

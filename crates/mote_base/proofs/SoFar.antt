@@ -1,5 +1,5 @@
 -- A text that is put piece by piece: the invariant of a loop that stops at the first put that fails.
-use Rattle.std.proofs.Common.{◌≡◌, ◌+◌, ◌≤◌, ℕ, Bool, List, [], ◌++◌, Option, Result, refl, sym, ap, subst, ◌∙◌, append_assoc, append-nil}
+use Rattle.std.proofs.Common.{◌≡◌, ℕ, Bool, List, [], ◌++◌, Option, Result, refl, sym, ap, subst, ◌∙◌, append_assoc, append-nil}
 use Rattle.mote_base.specs.Written.{Wrote, Broke, Puts}
 use Rattle.mote_base.proofs.Puts.{wrote_none, wrote_then, broke_then, broke_wide, puts_then}
 
