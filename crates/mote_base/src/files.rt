@@ -22,7 +22,7 @@ pub struct Files {
 
 impl Model for Files {
     ghost use Rattle.std.specs.Prelude.{◌≡◌, ◌<◌, ℕ, Some, length};
-    ghost use Rattle.mote_base.specs.Memory.{OpenFiles};
+    ghost use Rattle.mote_base.specs.Shelves.{OpenFiles};
     ghost use Rattle.mote_base.specs.Table.{named, place_in};
     ghost use Rattle.mote_base.specs.declared.files.Cursor.{Cursor};
 
