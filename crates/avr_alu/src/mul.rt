@@ -1,0 +1,61 @@
+//! Products of two bytes.
+ghost use Rattle.std.specs.Prelude.{◌≡◌, ◌*ℤ◌, pos};
+ghost use Rattle.avr_alu.specs.Flags.{flags_of, sreg_of};
+ghost use Rattle.avr_alu.specs.Signed.{signed};
+ghost use Rattle.avr_alu.specs.Mul.{word_of, mul_product, mul_value, mul_flags};
+
+use crate::bits::top_of_word;
+use crate::flags::Flags;
+
+/// MUL, MULS and MULSU, and FMUL, FMULS and FMULSU: of unsigned bytes, of signed ones, and of a signed
+/// `a` and an unsigned `b`, of which those that begin with F are fractional.
+#[derive(Clone, Copy, Debug, PartialEq, Eq)]
+pub enum Mul {
+    U,
+    S,
+    SU,
+    FU,
+    FS,
+    FSU,
+}
+
+/// The product of two bytes. A fractional product is shifted left once, and its low 16 bits are kept.
+pub fn mul8(op: Mul, a: u8, b: u8, sreg: u8) -> (u16, u8)
+    ensures value { result.0 ≡ mul_value op a b }
+    ensures flags { result.1 ≡ sreg_of (mul_flags op a b (flags_of sreg)) }
+{
+    let product = product_of(op, a, b);
+    let kept = match op {
+        Mul::U | Mul::S | Mul::SU => product,
+        Mul::FU | Mul::FS | Mul::FSU => product << 1,
+    };
+    let flags = Flags {
+        carry: top_of_word(product),
+        zero: kept == 0,
+        ..Flags::from_sreg(sreg)
+    };
+    (kept, flags.sreg())
+}
+
+/// The 16 bits of the product, before any shift.
+fn product_of(op: Mul, a: u8, b: u8) -> u16
+    ensures { result ≡ word_of (mul_product op a b) }
+{
+    match op {
+        Mul::U | Mul::FU => u16::from(a) * u16::from(b),
+        Mul::S | Mul::FS => signed_product(a, b),
+        Mul::SU | Mul::FSU => signed_by_unsigned(a, b),
+    }
+}
+
+fn signed_product(a: u8, b: u8) -> u16
+    ensures { result ≡ word_of (signed a *ℤ signed b) }
+{
+    (i16::from(a.cast_signed()) * i16::from(b.cast_signed())).cast_unsigned()
+}
+
+fn signed_by_unsigned(a: u8, b: u8) -> u16
+    ensures { result ≡ word_of (signed a *ℤ pos b) }
+{
+    (i16::from(a.cast_signed()) * i16::from(b)).cast_unsigned()
+}

@@ -1,0 +1,77 @@
+//! The operations on one byte.
+ghost use Rattle.std.specs.Prelude.{◌≡◌};
+ghost use Rattle.avr_alu.specs.Flags.{flags_of, sreg_of};
+ghost use Rattle.avr_alu.specs.One.{one_value, one_flags, shift_flags};
+ghost use Rattle.avr_alu.specs.Sum.{sub_flags};
+
+use crate::bits::bit_of_byte;
+use crate::flags::Flags;
+
+/// The operations by the manual's mnemonics.
+#[derive(Clone, Copy, Debug, PartialEq, Eq)]
+pub enum One {
+    Com,
+    Neg,
+    Inc,
+    Dec,
+    Swap,
+    Lsr,
+    Ror,
+    Asr,
+}
+
+/// ROR takes the carry that goes in from `sreg`.
+pub fn one8(op: One, a: u8, sreg: u8) -> (u8, u8)
+    ensures value { result.0 ≡ one_value op a (flags_of sreg) }
+    ensures flags { result.1 ≡ sreg_of (one_flags op a (flags_of sreg)) }
+{
+    let old = Flags::from_sreg(sreg);
+    let byte = result_of(op, a, old);
+    let flags = match op {
+        One::Com => Flags { carry: true, ..old.with_byte(byte, false) },
+        One::Neg => negated(a, byte, old),
+        One::Inc => old.with_byte(byte, byte == 0x80),
+        One::Dec => old.with_byte(byte, byte == 0x7F),
+        One::Swap => old,
+        One::Lsr => shifted(a, byte, old),
+        One::Ror => shifted(a, byte, old),
+        One::Asr => shifted(a, byte, old),
+    };
+    (byte, flags.sreg())
+}
+
+fn result_of(op: One, a: u8, old: Flags) -> u8
+    ensures { result ≡ one_value op a old }
+{
+    match op {
+        One::Com => !a,
+        One::Neg => a.wrapping_neg(),
+        One::Inc => a.wrapping_add(1),
+        One::Dec => a.wrapping_sub(1),
+        One::Swap => a << 4 | a >> 4,
+        One::Lsr => a >> 1,
+        One::Ror => u8::from(old.carry) << 7 | a >> 1,
+        One::Asr => a & 0x80 | a >> 1,
+    }
+}
+
+/// The flags after `byte`, which is 0 minus `a`.
+fn negated(a: u8, byte: u8, old: Flags) -> Flags
+    requires { byte ≡ one_value One.Neg a old }
+    ensures { result ≡ sub_flags 0 a false false old }
+{
+    Flags {
+        carry: byte != 0,
+        half_carry: bit_of_byte(byte | a, 3),
+        ..old.with_byte(byte, byte == 0x80)
+    }
+}
+
+/// The flags after a shift to the right from `a` to `byte`.
+fn shifted(a: u8, byte: u8, old: Flags) -> Flags
+    ensures { result ≡ shift_flags a byte old }
+{
+    let carry = bit_of_byte(a, 0);
+    let overflow = bit_of_byte(byte, 7) ^ carry;
+    Flags { carry, ..old.with_byte(byte, overflow) }
+}
