@@ -26,6 +26,7 @@ impl Flags {
     ghost use Rattle.avr_alu.specs.Flags.{flags_of, sreg_of, with_byte, with_word};
 
     /// The flags that a byte of SREG holds.
+    #[tactic(auto, using(crate::proofs::FlagLemmas::joined_again), unfolding(crate::specs::Flags::flags_of))]
     pub fn from_sreg(sreg: u8) -> Self
         ensures flags { result ≡ flags_of sreg }
         ensures round_trip { sreg_of result ≡ sreg }
@@ -43,6 +44,7 @@ impl Flags {
     }
 
     /// The byte of SREG that holds the flags.
+    #[tactic(auto, using(crate::proofs::FlagLemmas::joined_by_bits, crate::proofs::FlagLemmas::split_again))]
     pub fn sreg(self) -> u8
         ensures byte { result ≡ sreg_of self }
         ensures round_trip { flags_of result ≡ self }
@@ -57,6 +59,7 @@ impl Flags {
         put_above(byte, 7, self.interrupt)
     }
 
+    #[tactic(auto, using(crate::proofs::FlagLemmas::byte_by_bits))]
     /// Z, N, V and S after a byte as the result.
     pub(crate) fn with_byte(self, byte: u8, overflow: bool) -> Self
         ensures { result ≡ with_byte byte overflow self }
@@ -71,6 +74,7 @@ impl Flags {
         }
     }
 
+    #[tactic(auto, using(crate::proofs::FlagLemmas::word_by_bits))]
     /// Z, N, V and S after a word as the result.
     pub(crate) fn with_word(self, word: u16, overflow: bool) -> Self
         ensures { result ≡ with_word word overflow self }
@@ -87,6 +91,7 @@ impl Flags {
 }
 
 /// The byte with the bit above those that it has so far.
+#[tactic(auto, using(crate::proofs::FlagLemmas::put_above_adds))]
 fn put_above(byte: u8, bit: u32, on: bool) -> u8
     requires below { byte < 2 ^ bit }
     requires within { bit < 8 }

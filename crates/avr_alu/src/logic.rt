@@ -13,6 +13,7 @@ pub enum Logic {
     Eor,
 }
 
+#[tactic(auto, unfolding(crate::specs::Logic::logic_value, crate::specs::Logic::logic_flags))]
 pub fn logic8(op: Logic, a: u8, b: u8, sreg: u8) -> (u8, u8)
     ensures value { result.0 ≡ logic_value op a b }
     ensures flags { result.1 ≡ sreg_of (logic_flags op a b (flags_of sreg)) }

@@ -1,8 +1,8 @@
 //! Products of two bytes.
-ghost use Rattle.std.specs.Prelude.{◌≡◌, ◌*ℤ◌, pos};
+ghost use Rattle.std.specs.Prelude.{◌≡◌, ◌*◌, ◌%◌, ◌*ℤ◌, pos};
 ghost use Rattle.avr_alu.specs.Flags.{flags_of, sreg_of};
 ghost use Rattle.avr_alu.specs.Signed.{signed};
-ghost use Rattle.avr_alu.specs.Mul.{word_of, mul_product, mul_value, mul_flags};
+ghost use Rattle.avr_alu.specs.Mul.{word_of, mul_product, mul_scale, mul_value, mul_flags};
 
 use crate::bits::top_of_word;
 use crate::flags::Flags;
@@ -19,16 +19,14 @@ pub enum Mul {
     FSU,
 }
 
+#[tactic(auto, using(crate::proofs::MulLemmas::kept_bits, crate::proofs::MulLemmas::mul_flags_are))]
 /// The product of two bytes. A fractional product is shifted left once, and its low 16 bits are kept.
 pub fn mul8(op: Mul, a: u8, b: u8, sreg: u8) -> (u16, u8)
     ensures value { result.0 ≡ mul_value op a b }
     ensures flags { result.1 ≡ sreg_of (mul_flags op a b (flags_of sreg)) }
 {
     let product = product_of(op, a, b);
-    let kept = match op {
-        Mul::U | Mul::S | Mul::SU => product,
-        Mul::FU | Mul::FS | Mul::FSU => product << 1,
-    };
+    let kept = kept_of(op, product);
     let flags = Flags {
         carry: top_of_word(product),
         zero: kept == 0,
@@ -37,6 +35,7 @@ pub fn mul8(op: Mul, a: u8, b: u8, sreg: u8) -> (u16, u8)
     (kept, flags.sreg())
 }
 
+#[tactic(auto, using(crate::proofs::MulLemmas::unsigned_bits), unfolding(crate::specs::Mul::mul_product))]
 /// The 16 bits of the product, before any shift.
 fn product_of(op: Mul, a: u8, b: u8) -> u16
     ensures { result ≡ word_of (mul_product op a b) }
@@ -48,12 +47,25 @@ fn product_of(op: Mul, a: u8, b: u8) -> u16
     }
 }
 
+#[tactic(auto, unfolding(crate::specs::Mul::mul_scale))]
+/// The 16 bits of the product that are kept. Those of a fractional one are shifted left once.
+fn kept_of(op: Mul, product: u16) -> u16
+    ensures { result ≡ product * mul_scale op % 65536 }
+{
+    match op {
+        Mul::U | Mul::S | Mul::SU => product,
+        Mul::FU | Mul::FS | Mul::FSU => product << 1,
+    }
+}
+
+#[tactic(auto, using(crate::proofs::MulLemmas::signed_bits))]
 fn signed_product(a: u8, b: u8) -> u16
     ensures { result ≡ word_of (signed a *ℤ signed b) }
 {
     (i16::from(a.cast_signed()) * i16::from(b.cast_signed())).cast_unsigned()
 }
 
+#[tactic(auto, using(crate::proofs::MulLemmas::signed_bits))]
 fn signed_by_unsigned(a: u8, b: u8) -> u16
     ensures { result ≡ word_of (signed a *ℤ pos b) }
 {

@@ -1,5 +1,5 @@
 //! The operations on one byte.
-ghost use Rattle.std.specs.Prelude.{◌≡◌};
+ghost use Rattle.std.specs.Prelude.{◌≡◌, false};
 ghost use Rattle.avr_alu.specs.Flags.{flags_of, sreg_of};
 ghost use Rattle.avr_alu.specs.One.{one_value, one_flags, shift_flags};
 ghost use Rattle.avr_alu.specs.Sum.{sub_flags};
@@ -27,19 +27,10 @@ pub fn one8(op: One, a: u8, sreg: u8) -> (u8, u8)
 {
     let old = Flags::from_sreg(sreg);
     let byte = result_of(op, a, old);
-    let flags = match op {
-        One::Com => Flags { carry: true, ..old.with_byte(byte, false) },
-        One::Neg => negated(a, byte, old),
-        One::Inc => old.with_byte(byte, byte == 0x80),
-        One::Dec => old.with_byte(byte, byte == 0x7F),
-        One::Swap => old,
-        One::Lsr => shifted(a, byte, old),
-        One::Ror => shifted(a, byte, old),
-        One::Asr => shifted(a, byte, old),
-    };
-    (byte, flags.sreg())
+    (byte, flags_after(op, a, byte, old).sreg())
 }
 
+#[tactic(auto, using(crate::proofs::OneLemmas::halves_swapped, crate::proofs::OneLemmas::top_rotated, crate::proofs::OneLemmas::top_kept), unfolding(crate::specs::One::one_value, crate::specs::One::shifted_right, crate::specs::Sum::sub_value))]
 fn result_of(op: One, a: u8, old: Flags) -> u8
     ensures { result ≡ one_value op a old }
 {
@@ -55,6 +46,26 @@ fn result_of(op: One, a: u8, old: Flags) -> u8
     }
 }
 
+#[tactic(auto, using(crate::proofs::OneLemmas::inc_flags_are, crate::proofs::OneLemmas::dec_flags_are), unfolding(crate::specs::One::one_flags))]
+/// The flags after `byte`, which is the result.
+fn flags_after(op: One, a: u8, byte: u8, old: Flags) -> Flags
+    requires { byte ≡ one_value op a old }
+    ensures { result ≡ one_flags op a old }
+{
+    match op {
+        One::Com => Flags {
+            carry: true,
+            ..old.with_byte(byte, false)
+        },
+        One::Neg => negated(a, byte, old),
+        One::Inc => old.with_byte(byte, byte == 0x80),
+        One::Dec => old.with_byte(byte, byte == 0x7F),
+        One::Swap => old,
+        One::Lsr | One::Ror | One::Asr => shifted(a, byte, old),
+    }
+}
+
+#[tactic(auto, using(crate::proofs::OneLemmas::neg_flags_are))]
 /// The flags after `byte`, which is 0 minus `a`.
 fn negated(a: u8, byte: u8, old: Flags) -> Flags
     requires { byte ≡ one_value One.Neg a old }
@@ -67,6 +78,7 @@ fn negated(a: u8, byte: u8, old: Flags) -> Flags
     }
 }
 
+#[tactic(auto, using(crate::proofs::OneLemmas::shift_flags_are))]
 /// The flags after a shift to the right from `a` to `byte`.
 fn shifted(a: u8, byte: u8, old: Flags) -> Flags
     ensures { result ≡ shift_flags a byte old }

@@ -6,6 +6,7 @@ ghost use Rattle.avr_alu.specs.Sum.{add_value, add_flags, sub_value, sub_flags};
 use crate::bits::bit_of_byte;
 use crate::flags::Flags;
 
+#[tactic(auto, using(crate::proofs::SumLemmas::add_value_is, crate::proofs::SumLemmas::add_flags_are))]
 /// ADD and ADC: `a + b + carry`.
 pub fn add8(a: u8, b: u8, carry: bool, sreg: u8) -> (u8, u8)
     ensures value { result.0 ≡ add_value a b carry }
@@ -22,6 +23,7 @@ pub fn add8(a: u8, b: u8, carry: bool, sreg: u8) -> (u8, u8)
     (sum, flags.sreg())
 }
 
+#[tactic(auto, using(crate::proofs::SumLemmas::sub_value_is, crate::proofs::SumLemmas::sub_flags_are))]
 /// SUB, SUBI, CP and CPI, and with `keep_z` SBC, SBCI and CPC: `a - b - carry`, where `carry` is the
 /// borrow that goes in. With `keep_z` a result of 0 leaves Z as it was, so that after the last byte
 /// of a longer number Z says that all of it is 0.

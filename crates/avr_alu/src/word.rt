@@ -6,6 +6,7 @@ ghost use Rattle.avr_alu.specs.Word.{word_add_value, word_add_flags, word_sub_va
 use crate::bits::top_of_word;
 use crate::flags::Flags;
 
+#[tactic(auto, using(crate::proofs::WordLemmas::word_add_value_is, crate::proofs::WordLemmas::word_add_flags_are))]
 /// ADIW: `a + k`, where `k` has six bits.
 pub fn word_add(a: u16, k: u8, sreg: u8) -> (u16, u8)
     requires { k < 64 }
@@ -20,6 +21,7 @@ pub fn word_add(a: u16, k: u8, sreg: u8) -> (u16, u8)
     (sum, flags.sreg())
 }
 
+#[tactic(auto, using(crate::proofs::WordLemmas::word_sub_value_is, crate::proofs::WordLemmas::word_sub_flags_are))]
 /// SBIW: `a - k`, where `k` has six bits.
 pub fn word_sub(a: u16, k: u8, sreg: u8) -> (u16, u8)
     requires { k < 64 }
