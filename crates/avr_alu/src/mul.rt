@@ -1,7 +1,8 @@
 //! Products of two bytes.
-ghost use Rattle.std.specs.Prelude.{◌≡◌, ◌*◌, ◌%◌, ◌*ℤ◌, pos};
+ghost use Rattle.std.specs.Prelude.{◌≡◌, ◌*◌, ◌%◌, ◌*ℤ◌, FitsSigned};
 ghost use Rattle.avr_alu.specs.Flags.{flags_of, sreg_of};
 ghost use Rattle.avr_alu.specs.Signed.{signed};
+ghost use Rattle.std.specs.Int.{w16};
 ghost use Rattle.avr_alu.specs.Mul.{word_of, mul_product, mul_scale, mul_value, mul_flags};
 
 use crate::bits::top_of_word;
@@ -35,15 +36,15 @@ pub fn mul8(op: Mul, a: u8, b: u8, sreg: u8) -> (u16, u8)
     (kept, flags.sreg())
 }
 
-#[tactic(auto, using(crate::proofs::MulLemmas::unsigned_bits), unfolding(crate::specs::Mul::mul_product))]
+#[tactic(auto, using(crate::proofs::MulLemmas::unsigned_bits, crate::proofs::MulLemmas::signed_product_fits, crate::proofs::MulLemmas::mixed_product_fits), unfolding(crate::specs::Mul::mul_product))]
 /// The 16 bits of the product, before any shift.
 fn product_of(op: Mul, a: u8, b: u8) -> u16
     ensures { result ≡ word_of (mul_product op a b) }
 {
     match op {
         Mul::U | Mul::FU => u16::from(a) * u16::from(b),
-        Mul::S | Mul::FS => signed_product(a, b),
-        Mul::SU | Mul::FSU => signed_by_unsigned(a, b),
+        Mul::S | Mul::FS => signed_product(signed_value(a), signed_value(b)),
+        Mul::SU | Mul::FSU => signed_product(signed_value(a), i16::from(b)),
     }
 }
 
@@ -58,16 +59,17 @@ fn kept_of(op: Mul, product: u16) -> u16
     }
 }
 
-#[tactic(auto, using(crate::proofs::MulLemmas::signed_bits))]
-fn signed_product(a: u8, b: u8) -> u16
-    ensures { result ≡ word_of (signed a *ℤ signed b) }
+#[tactic(auto, using(crate::proofs::MulLemmas::signed_is))]
+fn signed_value(byte: u8) -> i16
+    ensures { result ≡ signed byte }
 {
-    (i16::from(a.cast_signed()) * i16::from(b.cast_signed())).cast_unsigned()
+    i16::from(byte.cast_signed())
 }
 
 #[tactic(auto, using(crate::proofs::MulLemmas::signed_bits))]
-fn signed_by_unsigned(a: u8, b: u8) -> u16
-    ensures { result ≡ word_of (signed a *ℤ pos b) }
+fn signed_product(x: i16, y: i16) -> u16
+    requires { FitsSigned w16 (x *ℤ y) }
+    ensures { result ≡ word_of (x *ℤ y) }
 {
-    (i16::from(a.cast_signed()) * i16::from(b)).cast_unsigned()
+    (x * y).cast_unsigned()
 }
