@@ -6,8 +6,9 @@ use Rattle.std.proofs.lemmas.Nat.Bits.{bit_at-lt}
 use Rattle.std.proofs.lemmas.Nat.{or_shifted, shl_whole}
 use Rattle.std.proofs.lemmas.Bool.Decides.{nat_tests}
 use Rattle.avr_alu.specs.declared.flags.Flags.{Flags}
-use Rattle.avr_alu.specs.Flags.{is_set, flags_of, sreg_of, with_byte, with_word}
-use Rattle.avr_alu.proofs.BitLemmas.{is_set-top, is_set-word}
+use Rattle.avr_alu.specs.Flags.{flags_of, sreg_of, with_result, with_byte, with_word}
+use Rattle.avr_alu.specs.Bits.{is_set}
+use Rattle.avr_alu.proofs.BitLemmas.{from_bool-is_set, is_set-top, is_set-word}
 
 -- a flag is the number 0 or 1
 pub below_two : (b : Bool) → from_bool b < 2
@@ -27,13 +28,6 @@ put_above_adds k b on p q =
     rw (shifted, or_shifted (from_bool on) k b p) (omega arith)
 
 -- a flag as a number, and back
-from_bool-test : (x : ℕ) → x < 2 → from_bool (nat_eq x 1) ≡ x
-from_bool-test x p = grind (arith, nat_tests)
-
-from_bool-is_set : (n k : ℕ) → from_bool (is_set n k) ≡ bit_at n k
-unfolding is_set
-from_bool-is_set n k = from_bool-test (bit_at n k) (bit_at-lt n k)
-
 is_one-from_bool : (b : Bool) → nat_eq (from_bool b) 1 ≡ b
 is_one-from_bool true = refl
 is_one-from_bool false = refl
@@ -73,12 +67,14 @@ split_again f =
     simp (at_0, at_1, at_2, at_3, at_4, at_5, at_6, at_7, is_one-from_bool)
 
 -- Z, N, V and S as the code computes them
-pub byte_by_bits : (byte : ℕ) (v : Bool) (f : Flags) → byte < 256 →
-    record f { zero = nat_eq byte 0; negative = is_set byte 7; overflow = v; sign = not (beq (is_set byte 7) v) } ≡ with_byte byte v f
-unfolding with_byte
-byte_by_bits byte v f p = simp (is_set-top, xor_is)
+pub result_by_bits : (z n v : Bool) (f : Flags) → record f { zero = z; negative = n; overflow = v; sign = not (beq n v) } ≡ with_result z n v f
+unfolding with_result
+result_by_bits z n v f = simp xor_is
 
-pub word_by_bits : (word : ℕ) (v : Bool) (f : Flags) → word < 65536 →
-    record f { zero = nat_eq word 0; negative = is_set word 15; overflow = v; sign = not (beq (is_set word 15) v) } ≡ with_word word v f
+pub byte_by_bits : (byte : ℕ) (v : Bool) (f : Flags) → byte < 256 → with_result (nat_eq byte 0) (is_set byte 7) v f ≡ with_byte byte v f
+unfolding with_byte
+byte_by_bits byte v f p = simp is_set-top
+
+pub word_by_bits : (word : ℕ) (v : Bool) (f : Flags) → word < 65536 → with_result (nat_eq word 0) (is_set word 15) v f ≡ with_word word v f
 unfolding with_word
-word_by_bits word v f p = simp (is_set-word, xor_is)
+word_by_bits word v f p = simp is_set-word

@@ -8,7 +8,7 @@ use Rattle.avr_alu.specs.declared.flags.Flags.{Flags}
 use Rattle.avr_alu.specs.declared.mul.Mul.{Mul}
 use Rattle.avr_alu.specs.declared.mul.Mul.TheVariants.{U, S, SU, FU, FS, FSU}
 use Rattle.avr_alu.specs.Signed.{signed}
-use Rattle.avr_alu.specs.Flags.{is_set}
+use Rattle.avr_alu.specs.Bits.{is_set}
 use Rattle.avr_alu.specs.Mul.{word_of, mul_product, mul_scale, mul_value, mul_flags}
 use Rattle.avr_alu.proofs.BitLemmas.{is_set-word}
 

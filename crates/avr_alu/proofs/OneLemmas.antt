@@ -9,7 +9,8 @@ use Rattle.std.proofs.lemmas.Bool.Decides.{nat_tests}
 use Rattle.std.proofs.lemmas.Int.{ints}
 use Rattle.avr_alu.specs.declared.flags.Flags.{Flags}
 use Rattle.avr_alu.specs.declared.one.One.TheVariants.{Neg, Inc, Dec}
-use Rattle.avr_alu.specs.Flags.{is_set, with_byte}
+use Rattle.avr_alu.specs.Flags.{with_result, with_byte}
+use Rattle.avr_alu.specs.Bits.{is_set}
 use Rattle.avr_alu.specs.Signed.{signed, leaves_byte}
 use Rattle.avr_alu.specs.Sum.{sub_value, sub_flags}
 use Rattle.avr_alu.specs.One.{one_value, shift_flags}
@@ -42,7 +43,7 @@ pub neg_flags_are : (a byte : ℕ) (old : Flags) → a < 256 → byte ≡ one_va
       carry = not (nat_eq byte 0);
       half_carry = is_set (bit_or byte a) 3;
     } ≡ sub_flags 0 a false false old
-unfolding one_value sub_value sub_flags with_byte
+unfolding one_value sub_value sub_flags with_byte with_result
 neg_flags_are a byte old p byte_is =
     let carry : not (nat_eq byte 0) ≡ nat_lt 0 (a + 0) = grind (arith, nat_tests) in
     let half : is_set (bit_or byte a) 3 ≡ nat_lt (0 % 16) (a % 16 + 0) = simp (is_set-or, is_set-half) (grind (arith, nat_tests)) in

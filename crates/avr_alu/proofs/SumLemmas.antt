@@ -5,7 +5,8 @@ use Rattle.std.specs.Int.{from_bool}
 use Rattle.std.proofs.lemmas.Bool.Decides.{nat_tests}
 use Rattle.std.proofs.lemmas.Int.{ints}
 use Rattle.avr_alu.specs.declared.flags.Flags.{Flags}
-use Rattle.avr_alu.specs.Flags.{is_set, with_byte}
+use Rattle.avr_alu.specs.Flags.{with_byte}
+use Rattle.avr_alu.specs.Bits.{is_set}
 use Rattle.avr_alu.specs.Signed.{signed, leaves_byte}
 use Rattle.avr_alu.specs.Sum.{add_value, add_flags, sub_value, sub_flags}
 use Rattle.avr_alu.proofs.BitLemmas.{is_set-and, is_set-or, is_set-top, is_set-top_not, is_set-half, is_set-half_not}
@@ -72,9 +73,12 @@ pub add_flags_are : (a b : ℕ) (carry : Bool) (old : Flags) (r : ℕ) → a < 2
 unfolding add_value add_flags
 add_flags_are a b carry old r a_fits b_fits r_is =
     let k_fits = below_two carry in
-    rw (sum_carry a b (from_bool carry) a_fits b_fits k_fits r r_is, sum_half_carry a b (from_bool carry) a_fits b_fits k_fits r r_is,
-        sum_overflow a b (from_bool carry) a_fits b_fits k_fits r r_is, r_is) refl
-
+    rw (
+      sum_carry a b (from_bool carry) a_fits b_fits k_fits r r_is,
+      sum_half_carry a b (from_bool carry) a_fits b_fits k_fits r r_is,
+      sum_overflow a b (from_bool carry) a_fits b_fits k_fits r r_is,
+      r_is,
+    ) refl
 
 -- sub8 as the code computes it
 pub sub_value_is : (a b : ℕ) (borrow : Bool) → a < 256 → b < 256 →
@@ -91,5 +95,10 @@ pub sub_flags_are : (a b : ℕ) (borrow keep_z : Bool) (old : Flags) (r : ℕ) �
 unfolding sub_value sub_flags
 sub_flags_are a b borrow keep_z old r a_fits b_fits r_is =
     let k_fits = below_two borrow in
-    rw (difference_borrow a b (from_bool borrow) a_fits b_fits k_fits r r_is, difference_half_borrow a b (from_bool borrow) a_fits b_fits k_fits r r_is,
-        difference_overflow a b (from_bool borrow) a_fits b_fits k_fits r r_is, zero_kept (nat_eq r 0) old.zero keep_z, r_is) refl
+    rw (
+      difference_borrow a b (from_bool borrow) a_fits b_fits k_fits r r_is,
+      difference_half_borrow a b (from_bool borrow) a_fits b_fits k_fits r r_is,
+      difference_overflow a b (from_bool borrow) a_fits b_fits k_fits r r_is,
+      zero_kept (nat_eq r 0) old.zero keep_z,
+      r_is,
+    ) refl

@@ -2,7 +2,7 @@
 ghost use Rattle.std.specs.Prelude.{◌≡◌, ◌+◌, ◌*◌, ◌^◌, ◌<◌};
 ghost use Rattle.std.specs.Int.{from_bool};
 
-use crate::bits::{bit_of_byte, top_of_word};
+use crate::bits::{is_set, is_top_set};
 
 /// The flags of the status register SREG, by the manual's names. SREG holds them in this order from
 /// bit 0 up, as C Z N V S H T I.
@@ -11,9 +11,9 @@ pub struct Flags {
     pub carry: bool,
     pub zero: bool,
     pub negative: bool,
-    /// The overflow of two's complement.
+    /// That the result, as a number in two's complement, is not the true one.
     pub overflow: bool,
-    /// The sign of the true result: N xor V.
+    /// The sign of the true result, N xor V.
     pub sign: bool,
     pub half_carry: bool,
     /// The bit that BST stores and BLD loads.
@@ -23,7 +23,7 @@ pub struct Flags {
 }
 
 impl Flags {
-    ghost use Rattle.avr_alu.specs.Flags.{flags_of, sreg_of, with_byte, with_word};
+    ghost use Rattle.avr_alu.specs.Flags.{flags_of, sreg_of, with_result, with_byte, with_word};
 
     /// The flags that a byte of SREG holds.
     #[tactic(auto, using(crate::proofs::FlagLemmas::joined_again), unfolding(crate::specs::Flags::flags_of))]
@@ -32,14 +32,14 @@ impl Flags {
         ensures round_trip { sreg_of result ≡ sreg }
     {
         Flags {
-            carry: bit_of_byte(sreg, 0),
-            zero: bit_of_byte(sreg, 1),
-            negative: bit_of_byte(sreg, 2),
-            overflow: bit_of_byte(sreg, 3),
-            sign: bit_of_byte(sreg, 4),
-            half_carry: bit_of_byte(sreg, 5),
-            transfer: bit_of_byte(sreg, 6),
-            interrupt: bit_of_byte(sreg, 7),
+            carry: is_set(sreg, 0),
+            zero: is_set(sreg, 1),
+            negative: is_set(sreg, 2),
+            overflow: is_set(sreg, 3),
+            sign: is_set(sreg, 4),
+            half_carry: is_set(sreg, 5),
+            transfer: is_set(sreg, 6),
+            interrupt: is_set(sreg, 7),
         }
     }
 
@@ -59,40 +59,39 @@ impl Flags {
         put_above(byte, 7, self.interrupt)
     }
 
-    #[tactic(auto, using(crate::proofs::FlagLemmas::byte_by_bits))]
+    #[tactic(auto, using(crate::proofs::FlagLemmas::result_by_bits))]
+    fn with_result(self, zero: bool, negative: bool, overflow: bool) -> Self
+        ensures { result ≡ with_result zero negative overflow self }
+    {
+        Flags {
+            zero,
+            negative,
+            overflow,
+            sign: negative ^ overflow,
+            ..self
+        }
+    }
+
     /// Z, N, V and S after a byte as the result.
+    #[tactic(auto, using(crate::proofs::FlagLemmas::byte_by_bits))]
     pub(crate) fn with_byte(self, byte: u8, overflow: bool) -> Self
         ensures { result ≡ with_byte byte overflow self }
     {
-        let negative = bit_of_byte(byte, 7);
-        Flags {
-            zero: byte == 0,
-            negative,
-            overflow,
-            sign: negative ^ overflow,
-            ..self
-        }
+        self.with_result(byte == 0, is_set(byte, 7), overflow)
     }
 
-    #[tactic(auto, using(crate::proofs::FlagLemmas::word_by_bits))]
     /// Z, N, V and S after a word as the result.
+    #[tactic(auto, using(crate::proofs::FlagLemmas::word_by_bits))]
     pub(crate) fn with_word(self, word: u16, overflow: bool) -> Self
         ensures { result ≡ with_word word overflow self }
     {
-        let negative = top_of_word(word);
-        Flags {
-            zero: word == 0,
-            negative,
-            overflow,
-            sign: negative ^ overflow,
-            ..self
-        }
+        self.with_result(word == 0, is_top_set(word), overflow)
     }
 }
 
-/// The byte with the bit above those that it has so far.
+/// The byte with a bit put above those that it has so far.
 #[tactic(auto, using(crate::proofs::FlagLemmas::put_above_adds))]
-fn put_above(byte: u8, bit: u32, on: bool) -> u8
+fn put_above(byte: u8, bit: u8, on: bool) -> u8
     requires below { byte < 2 ^ bit }
     requires within { bit < 8 }
     ensures { result ≡ byte + from_bool on * 2 ^ bit }

@@ -18,6 +18,7 @@ mod sum;
 mod tests;
 mod word;
 
+pub use bits::{is_set, with_bit};
 pub use flags::Flags;
 pub use logic::{Logic, logic8};
 pub use mul::{Mul, mul8};

@@ -5,7 +5,7 @@ ghost use Rattle.avr_alu.specs.Signed.{signed};
 ghost use Rattle.std.specs.Int.{w16};
 ghost use Rattle.avr_alu.specs.Mul.{word_of, mul_product, mul_scale, mul_value, mul_flags};
 
-use crate::bits::top_of_word;
+use crate::bits::is_top_set;
 use crate::flags::Flags;
 
 /// MUL, MULS and MULSU, and FMUL, FMULS and FMULSU: of unsigned bytes, of signed ones, and of a signed
@@ -20,8 +20,8 @@ pub enum Mul {
     FSU,
 }
 
-#[tactic(auto, using(crate::proofs::MulLemmas::kept_bits, crate::proofs::MulLemmas::mul_flags_are))]
 /// The product of two bytes. A fractional product is shifted left once, and its low 16 bits are kept.
+#[tactic(auto, using(crate::proofs::MulLemmas::kept_bits, crate::proofs::MulLemmas::mul_flags_are))]
 pub fn mul8(op: Mul, a: u8, b: u8, sreg: u8) -> (u16, u8)
     ensures value { result.0 ≡ mul_value op a b }
     ensures flags { result.1 ≡ sreg_of (mul_flags op a b (flags_of sreg)) }
@@ -29,15 +29,15 @@ pub fn mul8(op: Mul, a: u8, b: u8, sreg: u8) -> (u16, u8)
     let product = product_of(op, a, b);
     let kept = kept_of(op, product);
     let flags = Flags {
-        carry: top_of_word(product),
+        carry: is_top_set(product),
         zero: kept == 0,
         ..Flags::from_sreg(sreg)
     };
     (kept, flags.sreg())
 }
 
-#[tactic(auto, using(crate::proofs::MulLemmas::unsigned_bits, crate::proofs::MulLemmas::signed_product_fits, crate::proofs::MulLemmas::mixed_product_fits), unfolding(crate::specs::Mul::mul_product))]
 /// The 16 bits of the product, before any shift.
+#[tactic(auto, using(crate::proofs::MulLemmas::unsigned_bits, crate::proofs::MulLemmas::signed_product_fits, crate::proofs::MulLemmas::mixed_product_fits), unfolding(crate::specs::Mul::mul_product))]
 fn product_of(op: Mul, a: u8, b: u8) -> u16
     ensures { result ≡ word_of (mul_product op a b) }
 {
@@ -48,8 +48,8 @@ fn product_of(op: Mul, a: u8, b: u8) -> u16
     }
 }
 
-#[tactic(auto, unfolding(crate::specs::Mul::mul_scale))]
 /// The 16 bits of the product that are kept. Those of a fractional one are shifted left once.
+#[tactic(auto, unfolding(crate::specs::Mul::mul_scale))]
 fn kept_of(op: Mul, product: u16) -> u16
     ensures { result ≡ product * mul_scale op % 65536 }
 {

@@ -4,7 +4,7 @@ ghost use Rattle.avr_alu.specs.Flags.{flags_of, sreg_of};
 ghost use Rattle.avr_alu.specs.One.{one_value, one_flags, shift_flags};
 ghost use Rattle.avr_alu.specs.Sum.{sub_flags};
 
-use crate::bits::bit_of_byte;
+use crate::bits::is_set;
 use crate::flags::Flags;
 
 /// The operations by the manual's mnemonics.
@@ -46,8 +46,8 @@ fn result_of(op: One, a: u8, old: Flags) -> u8
     }
 }
 
-#[tactic(auto, using(crate::proofs::OneLemmas::inc_flags_are, crate::proofs::OneLemmas::dec_flags_are), unfolding(crate::specs::One::one_flags))]
 /// The flags after `byte`, which is the result.
+#[tactic(auto, using(crate::proofs::OneLemmas::inc_flags_are, crate::proofs::OneLemmas::dec_flags_are), unfolding(crate::specs::One::one_flags))]
 fn flags_after(op: One, a: u8, byte: u8, old: Flags) -> Flags
     requires { byte ≡ one_value op a old }
     ensures { result ≡ one_flags op a old }
@@ -65,25 +65,28 @@ fn flags_after(op: One, a: u8, byte: u8, old: Flags) -> Flags
     }
 }
 
-#[tactic(auto, using(crate::proofs::OneLemmas::neg_flags_are))]
 /// The flags after `byte`, which is 0 minus `a`.
+#[tactic(auto, using(crate::proofs::OneLemmas::neg_flags_are))]
 fn negated(a: u8, byte: u8, old: Flags) -> Flags
     requires { byte ≡ one_value One.Neg a old }
     ensures { result ≡ sub_flags 0 a false false old }
 {
     Flags {
         carry: byte != 0,
-        half_carry: bit_of_byte(byte | a, 3),
+        half_carry: is_set(byte | a, 3),
         ..old.with_byte(byte, byte == 0x80)
     }
 }
 
-#[tactic(auto, using(crate::proofs::OneLemmas::shift_flags_are))]
 /// The flags after a shift to the right from `a` to `byte`.
+#[tactic(auto, using(crate::proofs::OneLemmas::shift_flags_are))]
 fn shifted(a: u8, byte: u8, old: Flags) -> Flags
     ensures { result ≡ shift_flags a byte old }
 {
-    let carry = bit_of_byte(a, 0);
-    let overflow = bit_of_byte(byte, 7) ^ carry;
-    Flags { carry, ..old.with_byte(byte, overflow) }
+    let carry = is_set(a, 0);
+    let overflow = is_set(byte, 7) ^ carry;
+    Flags {
+        carry,
+        ..old.with_byte(byte, overflow)
+    }
 }
