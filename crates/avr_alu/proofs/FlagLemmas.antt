@@ -1,10 +1,8 @@
 -- The byte of SREG against its flags, and the flags that every result sets, as the code computes them.
-use Rattle.std.proofs.Common.{◌≡◌, ℕ, ◌+◌, ◌*◌, ◌-◌, ◌/◌, ◌%◌, ◌<◌, ◌^◌, Bool, true, false, not, nat_eq, bit_or, arith, refl}
-use Rattle.std.specs.Int.{bit_at, from_bool}
+use Rattle.std.proofs.Common.{◌≡◌, ℕ, ◌+◌, ◌*◌, ◌/◌, ◌%◌, ◌<◌, ◌^◌, Bool, true, false, not, nat_eq, bit_or, arith, refl}
+use Rattle.std.specs.Int.{from_bool}
 use Rattle.std.proofs.Math.Bool.{xor, beq}
-use Rattle.std.proofs.lemmas.Nat.Bits.{bit_at-lt}
 use Rattle.std.proofs.lemmas.Nat.{or_shifted, shl_whole}
-use Rattle.std.proofs.lemmas.Bool.Decides.{nat_tests}
 use Rattle.avr_alu.specs.declared.flags.Flags.{Flags}
 use Rattle.avr_alu.specs.Flags.{flags_of, sreg_of, with_result, with_byte, with_word}
 use Rattle.avr_alu.specs.Bits.{is_set}

@@ -1,5 +1,5 @@
 -- Products of two bytes (MUL, MULS, MULSU, FMUL, FMULS and FMULSU of the AVR Instruction Set Manual).
-use Rattle.std.specs.Prelude.{ℕ, ℤ, pos, ◌*ℤ◌, ◌*◌, ◌%◌, nat_eq, nat_le, unsigned_abs}
+use Rattle.std.specs.Prelude.{ℕ, ℤ, pos, ◌*ℤ◌, nat_eq, nat_le, unsigned_abs}
 use Rattle.std.specs.Int.{int_rem_euclid}
 use Rattle.avr_alu.specs.declared.flags.Flags.{Flags}
 use Rattle.avr_alu.specs.declared.mul.Mul.{Mul}
