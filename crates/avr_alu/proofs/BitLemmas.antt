@@ -59,6 +59,9 @@ unfolding is_set
 other_bit n k true p q j r ne = rw (← set_is n k q, bit_at_set_other w8 n k q j ne) refl
 other_bit n k false p q j r ne = rw (← cleared_is n k p q, bit_at_clear_other w8 n k q j r ne) refl
 
+-- what `with_bit` of the code does to each bit
+pub ruleset one_bit_changed = (set_is, cleared_is, same_bit, other_bit)
+
 -- `&` and `|` of two numbers that are 0 or 1
 and_test : (x y : ℕ) → x < 2 → y < 2 → nat_eq (min x y) 1 ≡ (nat_eq x 1 && nat_eq y 1)
 and_test x y p q = grind (arith, nat_tests)

@@ -35,6 +35,9 @@ signed_product_fits a b p q = fits_signed_mul w16 (signed a) (signed b) 128 128 
 pub mixed_product_fits : (a b : ℕ) → a < 256 → b < 256 → FitsSigned w16 (signed a *ℤ pos b)
 mixed_product_fits a b p q = fits_signed_mul w16 (signed a) (pos b) 128 255 (signed-abs a p) (omega arith) (omega arith)
 
+-- the products that fit their types
+pub ruleset products = (unsigned_bits, signed_product_fits, mixed_product_fits)
+
 -- a number in the range of a signed word as its bits
 bits_of_signed : (z : ℤ) → FitsSigned w16 z → cast_unsigned w16 z ≡ word_of z
 unfolding word_of

@@ -37,6 +37,9 @@ top_kept a p =
     let top : bit_and a 128 ≡ bit_at a 7 * 2 ^ 7 = and_pow a 7 in
     rw (top, or_shifted (bit_at a 7) 7 (a / 2) low) (grind (arith, nat_tests))
 
+-- the bits that a swap, a rotation and a shift move
+pub ruleset moved_bits = (halves_swapped, top_rotated, top_kept)
+
 -- NEG's flags
 pub neg_flags_are : (a byte : ℕ) (old : Flags) → a < 256 → byte ≡ one_value Neg a old →
     record (with_byte byte (nat_eq byte 128) old) {
@@ -68,6 +71,8 @@ pub dec_flags_are : (a byte : ℕ) (old : Flags) → a < 256 → byte ≡ one_va
     with_byte byte (nat_eq byte 127) old ≡ with_byte (one_value Dec a old) (leaves_byte (signed a -ℤ pos 1)) old
 unfolding one_value
 dec_flags_are a byte old p byte_is = rw (dec_overflow a byte p byte_is, byte_is) refl
+
+pub ruleset step_flags = (inc_flags_are, dec_flags_are)
 
 -- the flags after a shift to the right
 pub shift_flags_are : (a byte : ℕ) (old : Flags) → byte < 256 →

@@ -14,7 +14,8 @@ use Rattle.avr_alu.specs.Sum.{sub_value, sub_flags}
 unfoldable pub shifted_right : ℕ → Bool → ℕ
 shifted_right a top = a / 2 + 128 * from_bool top
 
--- the result; the flags are those before the operation, of which ROR takes C
+-- the result, where to subtract 1 modulo 256 is to add 255; the flags are those before the operation,
+-- of which ROR takes C
 unfoldable pub one_value : One → ℕ → Flags → ℕ
 one_value Com a old = 255 - a
 one_value Neg a old = sub_value 0 a false

@@ -12,17 +12,18 @@ pub fn is_set(byte: u8, bit: u8) -> bool
 }
 
 /// The byte with one bit put to `on`, as SREG after BSET, BCLR and BST.
-#[tactic(auto, using(crate::proofs::BitLemmas::set_is, crate::proofs::BitLemmas::cleared_is, crate::proofs::BitLemmas::same_bit, crate::proofs::BitLemmas::other_bit))]
+#[tactic(auto, using(crate::proofs::BitLemmas::one_bit_changed))]
 pub fn with_bit(byte: u8, bit: u8, on: bool) -> u8
     requires { bit < 8 }
     ensures value { result ≡ with_bit byte bit on }
-    ensures that_bit { is_set result bit ≡ on }
+    ensures changed { is_set result bit ≡ on }
     ensures others { (k : ℕ) → k < 8 → k ≢ bit → is_set result k ≡ is_set byte k }
 {
     let mask = 1 << bit;
     if on { byte | mask } else { byte & !mask }
 }
 
+/// Whether the top bit of a word is 1.
 #[tactic(auto, using(crate::proofs::BitLemmas::top_tested))]
 pub(crate) fn is_top_set(word: u16) -> bool
     ensures { result ≡ is_set word 15 }

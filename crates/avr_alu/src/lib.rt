@@ -1,11 +1,11 @@
 //! The arithmetic and logic unit of an AVR: the result of an operation on bytes or words, and the
 //! status register SREG after it.
 //!
-//! Each function gives the pair of its result and the new SREG, and its contract says what both are,
-//! for every input: `value` and `flags` are equations over whole numbers, in `specs/`. There a carry
-//! is a sum that doesn't fit, and an overflow a signed value that leaves its range. The code
-//! computes the same flags by the manual's formulas over bits. A flag that an operation doesn't
-//! name stays as it was.
+//! The contract of each function says what both are for every input: `value` and `flags` are
+//! equations over whole numbers, and their definitions in `specs/` follow the AVR Instruction Set
+//! Manual. There a carry is a sum that doesn't fit, a half carry one of the low halves that doesn't,
+//! and an overflow a signed value that leaves its range. The code computes the same flags by the
+//! manual's formulas over bits. A flag that an operation doesn't name stays as it was.
 #![tactic(auto)]
 
 mod bits;

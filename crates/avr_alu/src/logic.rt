@@ -5,7 +5,7 @@ ghost use Rattle.avr_alu.specs.Logic.{logic_value, logic_flags};
 
 use crate::flags::Flags;
 
-/// AND and ANDI, OR and ORI, and EOR.
+/// AND and ANDI, OR and ORI, and EOR, the exclusive or.
 #[derive(Clone, Copy, Debug, PartialEq, Eq)]
 pub enum Logic {
     And,

@@ -8,19 +8,25 @@ ghost use Rattle.avr_alu.specs.Mul.{word_of, mul_product, mul_scale, mul_value, 
 use crate::bits::is_top_set;
 use crate::flags::Flags;
 
-/// MUL, MULS and MULSU, and FMUL, FMULS and FMULSU: of unsigned bytes, of signed ones, and of a signed
-/// `a` and an unsigned `b`, of which those that begin with F are fractional.
+/// How two bytes are multiplied.
 #[derive(Clone, Copy, Debug, PartialEq, Eq)]
 pub enum Mul {
+    /// MUL: both unsigned.
     U,
+    /// MULS: both signed.
     S,
+    /// MULSU: `a` signed and `b` unsigned.
     SU,
+    /// FMUL: as MUL, fractional.
     FU,
+    /// FMULS: as MULS, fractional.
     FS,
+    /// FMULSU: as MULSU, fractional.
     FSU,
 }
 
-/// The product of two bytes. A fractional product is shifted left once, and its low 16 bits are kept.
+/// The product of two bytes, for R1:R0. A fractional product is shifted left once, and its low 16 bits
+/// are kept.
 #[tactic(auto, using(crate::proofs::MulLemmas::kept_bits, crate::proofs::MulLemmas::mul_flags_are))]
 pub fn mul8(op: Mul, a: u8, b: u8, sreg: u8) -> (u16, u8)
     ensures value { result.0 ≡ mul_value op a b }
@@ -37,7 +43,7 @@ pub fn mul8(op: Mul, a: u8, b: u8, sreg: u8) -> (u16, u8)
 }
 
 /// The 16 bits of the product, before any shift.
-#[tactic(auto, using(crate::proofs::MulLemmas::unsigned_bits, crate::proofs::MulLemmas::signed_product_fits, crate::proofs::MulLemmas::mixed_product_fits), unfolding(crate::specs::Mul::mul_product))]
+#[tactic(auto, using(crate::proofs::MulLemmas::products), unfolding(crate::specs::Mul::mul_product))]
 fn product_of(op: Mul, a: u8, b: u8) -> u16
     ensures { result ≡ word_of (mul_product op a b) }
 {

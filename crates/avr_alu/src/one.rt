@@ -7,7 +7,7 @@ ghost use Rattle.avr_alu.specs.Sum.{sub_flags};
 use crate::bits::is_set;
 use crate::flags::Flags;
 
-/// The operations by the manual's mnemonics.
+/// The operations on one byte, by the manual's mnemonics.
 #[derive(Clone, Copy, Debug, PartialEq, Eq)]
 pub enum One {
     Com,
@@ -20,7 +20,7 @@ pub enum One {
     Asr,
 }
 
-/// ROR takes the carry that goes in from `sreg`.
+/// The result, and SREG after it. The carry that ROR rotates in is the one in `sreg`.
 pub fn one8(op: One, a: u8, sreg: u8) -> (u8, u8)
     ensures value { result.0 ≡ one_value op a (flags_of sreg) }
     ensures flags { result.1 ≡ sreg_of (one_flags op a (flags_of sreg)) }
@@ -30,7 +30,7 @@ pub fn one8(op: One, a: u8, sreg: u8) -> (u8, u8)
     (byte, flags_after(op, a, byte, old).sreg())
 }
 
-#[tactic(auto, using(crate::proofs::OneLemmas::halves_swapped, crate::proofs::OneLemmas::top_rotated, crate::proofs::OneLemmas::top_kept), unfolding(crate::specs::One::one_value, crate::specs::One::shifted_right, crate::specs::Sum::sub_value))]
+#[tactic(auto, using(crate::proofs::OneLemmas::moved_bits), unfolding(crate::specs::One::one_value, crate::specs::One::shifted_right, crate::specs::Sum::sub_value))]
 fn result_of(op: One, a: u8, old: Flags) -> u8
     ensures { result ≡ one_value op a old }
 {
@@ -47,7 +47,7 @@ fn result_of(op: One, a: u8, old: Flags) -> u8
 }
 
 /// The flags after `byte`, which is the result.
-#[tactic(auto, using(crate::proofs::OneLemmas::inc_flags_are, crate::proofs::OneLemmas::dec_flags_are), unfolding(crate::specs::One::one_flags))]
+#[tactic(auto, using(crate::proofs::OneLemmas::step_flags), unfolding(crate::specs::One::one_flags))]
 fn flags_after(op: One, a: u8, byte: u8, old: Flags) -> Flags
     requires { byte ≡ one_value op a old }
     ensures { result ≡ one_flags op a old }
