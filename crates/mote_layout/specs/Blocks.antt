@@ -42,7 +42,7 @@ segment_at ss address = find (λ s. covers s address) ss
 
 -- the owner of an address; what no segment has counts as the kernel's
 abbrev pub owner_at : List Segment → ℕ → ℕ
-owner_at ss address = option_map_or (λ (s : Segment). s.owner) kernel (segment_at ss address)
+owner_at ss address = option_map_or (λ (s : Segment). s.owner) (segment_at ss address) kernel
 
 -- the segment that begins with a block, if there is one
 abbrev pub starting_at : List Segment → ℕ → Option Segment

@@ -3,7 +3,7 @@
 //! No word is kept there. A call of such an address is done by the kernel in place of a call.
 //! The page is this project's own.
 
-ghost use Rattle.std.specs.Prelude.{◌≡◌, ◌↔◌, ◌+◌, None, Some};
+ghost use Rattle.std.specs.Prelude.{◌≡◌, ◌↔◌, None, Some, IfNone, IfSome};
 ghost use Rattle.mote_layout.specs.Page.{StandsAt, IsInNoRow, entry_at, page_start, displacement_count, kernel_call_count, slot_count};
 
 /// The first address of the page. No code of a module reaches it.
@@ -128,6 +128,13 @@ pub fn entry_of(address: u16) -> Option<Entry>
     ensures entry { (e : Entry) → (result ≡ Some e) ↔ StandsAt e address }
     ensures none { (result ≡ None) ↔ IsInNoRow address }
     ensures value { result ≡ entry_at address }
+{
+    row_of(address)
+}
+
+fn row_of(address: u16) -> Option<Entry>
+    ensures standing { IfSome result (λ e. StandsAt e address) }
+    ensures empty { IfNone result (IsInNoRow address) }
 {
     match address {
         STORE_X_GUARD => Some(Entry::StoreX),
