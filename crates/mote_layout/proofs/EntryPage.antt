@@ -1,8 +1,8 @@
 -- The page by its entries and the page by its addresses are one.
-use Rattle.std.proofs.Common.{◌≡◌, ℕ, ◌+◌, ◌-◌, ◌<◌, ◌≤◌, ◌&&◌, ◌↔◌, leb, ltb, Bool, true, false, List, [], ◌∷◌, ◌++◌, Option, Some, None, IfSome, IfNone, refl, sym, arith, cond, ap, ◌∙◌, subst, take, drop, ◌⊎◌, inl, inr}
+use Rattle.std.proofs.Common.{◌≡◌, ℕ, ◌+◌, ◌-◌, ◌<◌, ◌≤◌, ◌&&◌, ◌↔◌, leb, ltb, Bool, true, List, [], ◌∷◌, ◌++◌, Option, Some, None, IfSome, IfNone, refl, sym, arith, ap, ◌∙◌, subst, take, drop, ◌⊎◌, inl, inr}
 use Rattle.std.proofs.lemmas.Option.{none-some, same_Some}
 use Rattle.std.proofs.lemmas.Bool.{le-leb, le-ltb, lt-ltb, leb-true, ltb-true, and_from, and_right, and_parts, cond-true, cond-false, cases_Bool}
-use Rattle.mote_layout.specs.Page.{StandsAt, IsInNoRow, Row, row, rows_from, page, entry_among, entry_at, displacement_count, kernel_call_count, slot_count}
+use Rattle.mote_layout.specs.Page.{StandsAt, IsInNoRow, Row, page, entry_among, entry_at}
 use Rattle.mote_layout.specs.declared.page.Entry.{Entry}
 use Rattle.mote_layout.specs.declared.page.Entry.TheVariants.{StoreX, StoreXInc, StoreXDec, StoreYInc, StoreYDec, StoreZInc, StoreZDec, StoreY, StoreZ, StoreSts, PushGuard, PopGuard, SpGuard, LocalCall, SlotIndirect, Return, Reserve, Kernel, Slot}
 
@@ -72,15 +72,15 @@ entry_among-cases : (rs : List Row) (a : ℕ) → AreSound rs → (entry_among r
 entry_among-cases [] a sound = inl refl
 entry_among-cases (r ∷ rs) a sound =
     elim (cases_Bool (leb r.first a && ltb a (r.first + r.count))) [
-      inl within ↦
-        let parts = and_parts (leb r.first a) (ltb a (r.first + r.count)) within in
-        let low = leb-true r.first a parts.0 in
-        let high = ltb-true a (r.first + r.count) parts.1 in
-        let place : r.first + (a - r.first) ≡ a = omega (arith, low) in
-        inr (r.entry (a - r.first), subst (λ (k : ℕ). StandsAt (r.entry (a - r.first)) k) place (sound.0 (a - r.first) (omega (arith, low, high))))
-    | inr outside ↦
-        let skip = cond-false (leb r.first a && ltb a (r.first + r.count)) (Some (r.entry (a - r.first))) (entry_among rs a) outside in
-        elim (entry_among-cases rs a sound.1) [ inl none ↦ inl (skip ∙ none) | inr found ↦ inr found ]
+      | inl within ↦
+          let parts = and_parts (leb r.first a) (ltb a (r.first + r.count)) within in
+          let low = leb-true r.first a parts.0 in
+          let high = ltb-true a (r.first + r.count) parts.1 in
+          let place : r.first + (a - r.first) ≡ a = omega (arith, low) in
+          inr (r.entry (a - r.first), subst (λ (k : ℕ). StandsAt (r.entry (a - r.first)) k) place (sound.0 (a - r.first) (omega (arith, low, high))))
+      | inr outside ↦
+          let skip = cond-false (leb r.first a && ltb a (r.first + r.count)) (Some (r.entry (a - r.first))) (entry_among rs a) outside in
+          elim (entry_among-cases rs a sound.1) [ inl none ↦ inl (skip ∙ none) | inr found ↦ inr found ]
     ]
 
 -- the rows of the page hold what stands there
@@ -102,10 +102,10 @@ entry_at-answer (Some e) a standing empty = sym (entry_at-standing e a standing)
 entry_at-stands : (a : ℕ) (e : Entry) → entry_at a ≡ Some e → StandsAt e a
 entry_at-stands a e h =
     elim (entry_among-cases page a page_sound) [
-      inl none ↦ absurd (none-some e (sym none ∙ h))
-    | inr found ↦
-        let same : found.0 ≡ e = same_Some found.0 e (sym (entry_at-standing found.0 a found.1) ∙ h) in
-        subst (λ (x : Entry). StandsAt x a) same found.1
+      | inl none ↦ absurd (none-some e (sym none ∙ h))
+      | inr found ↦
+          let same : found.0 ≡ e = same_Some found.0 e (sym (entry_at-standing found.0 a found.1) ∙ h) in
+          subst (λ (x : Entry). StandsAt x a) same found.1
     ]
 
 -- the page has an entry at an address exactly where it stands there
