@@ -2,8 +2,10 @@
 -- address afterwards.
 use Rattle.std.proofs.Common.{◌≡◌, ◌≢◌, ℕ, ◌+◌, ◌≤◌, inl, inr, ◌↔◌, leb, ltb, eqb, not, Bool, true, false, List, [], ◌∷◌, length, filter, Some, IsSomeAnd, sym, arith, ◌∙◌}
 use Rattle.std.proofs.lemmas.Bool.{ltb-true, ltb-false, leb-true, leb-false, and_parts, and_cases, cond_both, cases_Bool, eqb-true, eqb-false}
-use Rattle.mote_layout.specs.Memory.{block_count, kernel}
-use Rattle.mote_layout.specs.Blocks.{FitsBehind, AreBlocksFrom, AreBlocks, block_address, Covers, covers, Owns, segment_at, AreFree, Fits, inserted, without, without_owner, given_to, handed_over}
+use Rattle.std.proofs.lemmas.Bool.{cond-true, cond-false, cases_lt}
+use Rattle.std.proofs.lemmas.Option.{none-some}
+use Rattle.mote_layout.specs.Memory.{heap_end, block_count, kernel}
+use Rattle.mote_layout.specs.Blocks.{FitsBehind, AreBlocksFrom, AreBlocks, block_address, Covers, covers, Owns, segment_at, AreFree, Fits, block_of, IsFreeAddress, inserted, without, without_owner, given_to, handed_over}
 use Rattle.mote_layout.specs.declared.segment.Segment.{Segment}
 
 -- what stands behind some blocks stands behind fewer
@@ -107,6 +109,50 @@ Owns-segment_at_from low (s ∷ ss) owner a blocks =
 
 pub Owns-segment_at : (ss : List Segment) (owner a : ℕ) → AreBlocks ss → Owns ss owner a ↔ IsSomeAnd (segment_at ss a) (λ s. s.owner ≡ owner)
 Owns-segment_at ss owner a blocks = Owns-segment_at_from 0 ss owner a blocks
+
+-- no segment is at an address outside the heap or in a free block
+segment_at-free : (low : ℕ) (ss : List Segment) (a : ℕ) → AreBlocksFrom low ss → IsFreeAddress ss a → segment_at ss a ≡ None
+segment_at-free low [] a blocks free = refl
+segment_at-free low (s ∷ ss) a blocks free =
+    let rest = segment_at-free (s.first + s.count) ss a blocks.1 in
+    let other : covers s a ≡ false = elim (cases_Bool (covers s a)) [
+      inl inside ↦
+        let within = covers-true s a inside in
+        elim free [
+          inl before ↦ absurd (omega (arith, within.0))
+        | inr more ↦ elim more [
+            inl past ↦ absurd (omega (arith, within.1, blocks.0.2))
+          | inr blocks_free ↦ elim blocks_free.0 [ inl h ↦ absurd (omega (arith, within.1, h)) | inr h ↦ absurd (omega (arith, within.0, h)) ]
+          ]
+        ]
+    | inr outside ↦ outside
+    ] in
+    cond-false (covers s a) (Some s) (segment_at ss a) other
+    ∙ rest (elim free [ inl before ↦ inl before | inr more ↦ inr (elim more [ inl past ↦ inl past | inr blocks_free ↦ inr blocks_free.1 ]) ])
+
+-- where no segment is at an address of the heap, its block is free
+AreFree-unheld : (ss : List Segment) (a : ℕ) → heap_start ≤ a → segment_at ss a ≡ None → AreFree ss (block_of a) 1
+AreFree-unheld [] a h none = tt
+AreFree-unheld (s ∷ ss) a h none =
+    elim (cases_Bool (covers s a)) [
+      inl inside ↦ absurd (none-some s (sym none ∙ cond-true (covers s a) (Some s) (segment_at ss a) inside))
+    | inr outside ↦
+        let apart = covers-false s a outside in
+        let behind : (s.first + s.count ≤ block_of a) ⊎ (block_of a + 1 ≤ s.first) = elim (cases_lt (block_of a) s.first) [
+          inl before ↦ inr (omega arith)
+        | inr after ↦ elim (cases_lt (block_of a) (s.first + s.count)) [
+            inl within ↦ absurd (apart (omega (arith, after), omega (arith, within)))
+          | inr past ↦ inl past
+          ]
+        ] in
+        (behind, AreFree-unheld ss a h (sym (cond-false (covers s a) (Some s) (segment_at ss a) outside) ∙ none))
+    ]
+
+-- no segment is at an address exactly where it is outside the heap or its block is free
+pub segment_at-none : (ss : List Segment) (a : ℕ) → AreBlocks ss → (segment_at ss a ≡ None) ↔ IsFreeAddress ss a
+segment_at-none ss a blocks =
+    (λ none. elim (cases_lt a heap_start) [ inl before ↦ inl before | inr within ↦ inr (inr (AreFree-unheld ss a within none)) ],
+    λ free. segment_at-free 0 ss a blocks free)
 
 -- the owner of an address once a segment is added
 pub Owns-inserted : (s : Segment) (ss : List Segment) (owner a : ℕ) → Owns (inserted s ss) owner a ↔ Owns (s ∷ ss) owner a

@@ -2,7 +2,7 @@
 
 ghost use Rattle.std.specs.Prelude.{◌≡◌, ◌≢◌, ℕ, ◌≤◌, ◌↔◌, List, ◌∷◌, None, Some, IsSomeAnd};
 ghost use Rattle.mote_layout.specs.Memory.{kernel};
-ghost use Rattle.mote_layout.specs.Blocks.{AreBlocks, Owns, segment_at, Fits, inserted, without, without_owner, handed_over};
+ghost use Rattle.mote_layout.specs.Blocks.{AreBlocks, Owns, segment_at, Fits, IsFreeAddress, inserted, without, without_owner, handed_over};
 ghost use Rattle.mote_layout.specs.Fit.{IsLeastFit, fit};
 ghost use Rattle.mote_layout.specs.declared.segment.Segment.{Segment};
 
@@ -19,6 +19,10 @@ pub fn blocks_laws()
     // The owner of an address is that of the one segment there, and changes only with that segment.
     ensures owner { (ss : List Segment) (owner address : ℕ) → AreBlocks ss
         → Owns ss owner address ↔ IsSomeAnd (segment_at ss address) (λ s. s.owner ≡ owner) }
+    ensures free {
+        (ss : List Segment) (address : ℕ) → AreBlocks ss
+        → (segment_at ss address ≡ None) ↔ IsFreeAddress ss address
+    }
     ensures owner_inserted { (s : Segment) (ss : List Segment) (owner address : ℕ)
         → Owns (inserted s ss) owner address ↔ Owns (s ∷ ss) owner address }
     ensures owner_gone { (gone : ℕ) (ss : List Segment) (owner address : ℕ)

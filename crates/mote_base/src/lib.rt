@@ -1,0 +1,25 @@
+//! What every crate of the mote stands on: texts, words of code, lines, statuses, and the outside.
+//!
+//! The outside is a shelf of files to read and a sink to write to. Each is a trait whose contract says what a call gives,
+//! when it may fail, and what its count of faults tells. Four types meet the traits in memory: two fail exactly where they
+//! are told to, and two never fail.
+#![tactic(auto)]
+
+mod fault;
+mod files;
+mod memory;
+mod outside;
+mod sure;
+mod word;
+mod words;
+
+use arrayvec::ArrayVec;
+pub use fault::{Failed, NoMemory, Status};
+pub use memory::{MemShelf, MemSink};
+pub use outside::{Shelf, Sink};
+pub use sure::{SureShelf, SureSink};
+pub use word::Word;
+pub use words::Words;
+
+/// A line of output, its line feed included.
+pub type Line = ArrayVec<u8, 256>;
