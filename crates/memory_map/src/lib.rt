@@ -7,7 +7,6 @@
 #![tactic(auto)]
 
 mod map;
-
 #[cfg(test)]
 mod tests;
 

@@ -1,14 +1,14 @@
 //! A map that keeps its segments as they are, in one list.
 
-ghost use Rattle.std.specs.Prelude.{◌≡◌, ◌≤◌, ◌↔◌, length, take_while, nat_lt, [], IfOk, IsSome};
-ghost use Rattle.mote_layout.specs.Blocks.{AreBlocks, covers, owner_at, segment_at, starting_at, Fits, inserted, without};
-
-use std::alloc::Global;
-use std::marker::Model;
+ghost use Rattle.std.specs.Prelude.{◌≡◌, ◌≤◌, ◌↔◌, nat_lt, [], None, IfOk, IsSome};
+ghost use Rattle.std.specs.List.{prefix_len};
+ghost use Rattle.mote_layout.specs.Blocks.{AreBlocks, IsFreeAddress, covers, owner_at, segment_at, starting_at, Fits, inserted, without};
 
 use arrayvec::ArrayVec;
 use mote_base::NoMemory;
 use mote_layout::{BLOCK_BYTES, BLOCKS, HEAP_START, KERNEL, Segment};
+use std::alloc::Global;
+use std::marker::Model;
 
 /// No map has more segments than the heap has blocks.
 const SEGMENTS: usize = BLOCKS as usize;
@@ -80,19 +80,28 @@ impl MemoryMap {
     /// The segment in which an address lies, or None where its block is free or it is outside the heap.
     pub fn segment_at(&self, a: u16) -> Option<Segment>
         ensures segment { result ≡ segment_at self.now a }
-        ensures none { (result ≡ None) ↔ IsInNoSegment self.now a }
+        ensures none { (result ≡ None) ↔ IsFreeAddress self.now a }
         ensures blocks { AreBlocks self.now }
     {
-        let segments = self.segments.as_slice();
-        segments.iter().find(|segment| is_in(a, segment)).copied()
+        covering(self.segments.as_slice(), a)
     }
 }
 
 /// How many segments begin before a block.
 fn count_before(segments: &[Segment], block: u16) -> usize
-    ensures { result ≡ length (take_while (λ s. nat_lt s.first block) segments.now) }
+    ensures { result ≡ prefix_len (λ s. nat_lt s.first block) segments.now }
 {
-    segments.iter().take_while(|segment| segment.first < block).count()
+    segments
+        .iter()
+        .take_while(|segment| segment.first < block)
+        .count()
+}
+
+/// The first of the segments in which an address lies.
+fn covering(segments: &[Segment], a: u16) -> Option<Segment>
+    ensures { result ≡ segment_at segments.now a }
+{
+    segments.iter().copied().find(|segment| is_in(a, segment))
 }
 
 /// Whether an address lies in a segment.

@@ -1,10 +1,8 @@
 //! The whole heap as one segment, and the edges of it.
 
-use std::test::Fail;
-
-use mote_layout::KERNEL;
-
 use crate::{MemoryMap, Segment};
+use mote_layout::KERNEL;
+use std::test::Fail;
 
 #[test]
 fn tells_segments(rt: HostRuntime) -> Result<(), Fail> {
@@ -26,12 +24,7 @@ fn tells_segments(rt: HostRuntime) -> Result<(), Fail> {
     map.clear_segment(0);
     assert_eq!(rt; map.segment_at(0x0DFF), None);
     map.set_segment(1, 2, 3);
-    for (a, owner) in [
-        (0x0207, KERNEL),
-        (0x0208, 3),
-        (0x0217, 3),
-        (0x0218, KERNEL),
-    ] {
+    for (a, owner) in [(0x0207, KERNEL), (0x0208, 3), (0x0217, 3), (0x0218, KERNEL)] {
         assert_eq!(rt; map.owner_at(a), owner, "at {a:04x}");
     }
     Ok(())

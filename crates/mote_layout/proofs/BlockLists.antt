@@ -1,10 +1,10 @@
 -- Segments stay *Blocks* when one is added, some are taken out, or one changes its owner; and who owns an
 -- address afterwards.
-use Rattle.std.proofs.Common.{◌≡◌, ◌≢◌, ℕ, ◌+◌, ◌≤◌, inl, inr, ◌↔◌, leb, ltb, eqb, not, Bool, true, false, List, [], ◌∷◌, length, filter, Some, IsSomeAnd, sym, arith, ◌∙◌}
+use Rattle.std.proofs.Common.{◌≡◌, ◌≢◌, ℕ, ◌+◌, ◌≤◌, inl, inr, ◌↔◌, ◌⊎◌, refl, leb, ltb, eqb, not, Bool, true, false, List, [], ◌∷◌, length, filter, Some, None, IsSomeAnd, sym, arith, ◌∙◌}
 use Rattle.std.proofs.lemmas.Bool.{ltb-true, ltb-false, leb-true, leb-false, and_parts, and_cases, cond_both, cases_Bool, eqb-true, eqb-false}
 use Rattle.std.proofs.lemmas.Bool.{cond-true, cond-false, cases_lt}
 use Rattle.std.proofs.lemmas.Option.{none-some}
-use Rattle.mote_layout.specs.Memory.{heap_end, block_count, kernel}
+use Rattle.mote_layout.specs.Memory.{heap_end, heap_start, block_count, kernel}
 use Rattle.mote_layout.specs.Blocks.{FitsBehind, AreBlocksFrom, AreBlocks, block_address, Covers, covers, Owns, segment_at, AreFree, Fits, block_of, IsFreeAddress, inserted, without, without_owner, given_to, handed_over}
 use Rattle.mote_layout.specs.declared.segment.Segment.{Segment}
 
