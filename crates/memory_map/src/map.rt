@@ -48,15 +48,13 @@ impl MemoryMap {
         ensures set { self.new ≡ inserted (record { first = first; count = count; owner = owner }) self.old }
         ensures blocks { AreBlocks self.old × AreBlocks self.new }
     {
+        let segment = Segment {
+            first,
+            count,
+            owner,
+        };
         let place = count_before(self.segments.as_slice(), first);
-        self.segments.insert(
-            place,
-            Segment {
-                first,
-                count,
-                owner,
-            },
-        );
+        self.segments.insert(place, segment);
     }
 
     /// Frees the blocks of the segment that begins with the block `first`.
