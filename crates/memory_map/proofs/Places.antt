@@ -1,13 +1,14 @@
 -- Where a segment goes into the list of segments, and where one stands in it.
-use Rattle.std.proofs.Common.{◌≡◌, ℕ, suc, ◌+◌, ◌<◌, ◌≤◌, inl, inr, ltb, eqb, false, List, [], ◌∷◌, length, Some, IsSome, refl, sym, arith, ap, ◌∙◌, subst}
+use Rattle.std.proofs.Common.{◌≡◌, ℕ, suc, ◌+◌, ◌<◌, ◌≤◌, inl, inr, ltb, eqb, List, [], ◌∷◌, length, Some, IsSome, refl, sym, arith, ap, ◌∙◌, subst}
 use Rattle.std.specs.List.{insert, remove, prefix_len}
-use Rattle.std.proofs.lemmas.Bool.{ltb-true, ltb-false, lt-ltb, le-ltb, cases_Bool, eqb-true, cond-false, cond_both, ne_eqb}
+use Rattle.std.proofs.lemmas.Bool.{ltb-true, ltb-false, lt-ltb, le-ltb, cases_Bool, eqb-true, cond-false, cond_both}
 use Rattle.std.proofs.lemmas.Bool.{false≢true}
 use Rattle.std.proofs.lemmas.List.Sums.{prefix_len-le-length}
 use Rattle.mote_layout.specs.Memory.{block_count, kernel}
 use Rattle.mote_layout.specs.Blocks.{AreBlocksFrom, AreBlocks, AreFree, Fits, starting_at, inserted, without}
 use Rattle.mote_layout.specs.declared.segment.Segment.{Segment}
 use Rattle.mote_layout.proofs.BlockLists.{length-blocks, AreBlocks-inserted, AreBlocks-without}
+use Rattle.mote_layout.proofs.OneSegment.{without-behind}
 
 -- how many segments begin before a block
 abbrev pub count_before : ℕ → List Segment → ℕ
@@ -48,13 +49,6 @@ length-inserted s (t ∷ ts) =
 room : (s : Segment) (ss : List Segment) → 1 ≤ s.count → s.owner ≤ kernel → Fits ss s.first s.count → AreBlocks ss → length ss < block_count
 room s ss some owner fit blocks =
     omega (arith, length-inserted s ss, length-blocks 0 (inserted s ss) (omega arith) (AreBlocks-inserted s ss some owner fit blocks))
-
--- no segment behind a block begins with it
-without-behind : (block low : ℕ) (ss : List Segment) → block < low → AreBlocksFrom low ss → without block ss ≡ ss
-without-behind block low [] h blocks = refl
-without-behind block low (s ∷ ss) h blocks =
-    let other : eqb s.first block ≡ false = ne_eqb s.first block (λ e. omega (arith, blocks.0.0, e)) in
-    rw other (ap (λ xs. s ∷ xs) (without-behind block (s.first + s.count) ss (omega (arith, blocks.0.0)) blocks.1))
 
 -- a block with which a segment begins is behind the blocks below the segments
 starting_at-behind : (block low : ℕ) (ss : List Segment) → AreBlocksFrom low ss → IsSome (starting_at ss block) → low ≤ block

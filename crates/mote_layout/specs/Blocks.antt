@@ -1,5 +1,6 @@
 -- The blocks of the heap and who holds them: a sorted list of segments.
 use Rattle.std.specs.Prelude.{◌≡◌, ℕ, ◌+◌, ◌-◌, ◌*◌, ◌/◌, ◌≤◌, ◌<◌, ◌⊎◌, ◌==◌, ◌&&◌, ⊤, Bool, not, nat_le, nat_lt, List, [], ◌∷◌, map, filter, find, Option, if◌then◌else◌}
+use Rattle.std.specs.List.{list_any}
 use Rattle.std.specs.Option.{option_map_or}
 use Rattle.mote_layout.specs.Memory.{block_count, block_bytes, heap_start, heap_end, kernel}
 use Rattle.mote_layout.specs.declared.segment.Segment.{Segment}
@@ -35,6 +36,10 @@ covers s address = nat_le (block_address s.first) address && nat_lt address (blo
 abbrev pub Owns : List Segment → ℕ → ℕ → Type 0
 Owns [] owner address = ⊥
 Owns (s ∷ ss) owner address = ((s.owner ≡ owner) × Covers s address) ⊎ Owns ss owner address
+
+-- `Owns` as a test
+abbrev pub owns : List Segment → ℕ → ℕ → Bool
+owns ss owner address = list_any (λ s. s.owner == owner && covers s address) ss
 
 -- the segment in which an address lies; none where its block is free or it is outside the heap
 abbrev pub segment_at : List Segment → ℕ → Option Segment

@@ -10,7 +10,7 @@
 //! `limits_are_as_defined` and `page_is_as_defined` say that the constants are those numbers.
 //! `entry_of` is exact. *Blocks* (`specs/Blocks.antt`), *Least fit* (`specs/Fit.antt`) and
 //! *Permitted store* (`specs/Store.antt`) are defined here over lists, for the crates above, with their
-//! laws in `blocks_laws` and `least_fit_laws`.
+//! laws in `blocks_laws`, `segment_laws` and `least_fit_laws`.
 #![tactic(auto)]
 
 mod laws;
@@ -21,7 +21,7 @@ mod segment;
 #[cfg(test)]
 mod tests;
 
-pub use laws::{blocks_laws, least_fit_laws};
+pub use laws::{blocks_laws, least_fit_laws, segment_laws};
 pub use limits::{
     DEFAULT_HANDLER_UNITS, DEFAULT_UNITS, EVENTS, FRAMES, IMAGE_BYTES, IMAGES, LINE_BYTES,
     LINES_PER_TURN, MAX_HANDLER_UNITS, MAX_UNITS, PAYLOAD_BYTES, PROVIDED, QUEUE_MESSAGES,

@@ -3,7 +3,7 @@ use Rattle.std.proofs.Common.{◌≡◌, ℕ, ◌↔◌, IsTrue, IsSomeAnd, Bool
 use Rattle.std.proofs.lemmas.Bool.{eqb-true, false≢true}
 use Rattle.mote_layout.specs.Blocks.{AreBlocks, Owns, segment_at}
 use Rattle.mote_layout.specs.declared.segment.Segment.{Segment}
-use Rattle.mote_layout.proofs.BlockLists.{Owns-segment_at}
+use Rattle.mote_layout.proofs.Owners.{Owns-segment_at}
 
 -- a test of the segment's owner tells whether the segment is there and of that owner
 owner_test : (o : Option Segment) (d : ℕ) (r : Bool) → MatchOption o (r ≡ false) (λ s. r ≡ eqb s.owner d) → IsTrue r ↔ IsSomeAnd o (λ s. s.owner ≡ d)

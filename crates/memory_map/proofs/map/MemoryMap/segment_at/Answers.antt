@@ -1,7 +1,7 @@
 -- Where no segment has the address, it is outside the heap or its block is free.
 use Rattle.std.proofs.Common.{◌≡◌}
 use Rattle.mote_layout.specs.Blocks.{AreBlocks, segment_at}
-use Rattle.mote_layout.proofs.BlockLists.{segment_at-none}
+use Rattle.mote_layout.proofs.Owners.{segment_at-none}
 use Rattle.memory_map.proofs.map.MemoryMap.segment_at.Goals as goal
 
 pub returns-clause-none : goal.returns-clause-none
