@@ -1,0 +1,11 @@
+-- The owner of the segment at the address decides.
+use Rattle.std.proofs.Common.{rules}
+use Rattle.store_check.proofs.Owners.{owner_tells, owner_test-is_owns}
+use Rattle.store_check.proofs.store.owns.Goals as goal
+
+pub returns-clause-owned : goal.returns-clause-owned
+returns-clause-owned c =
+    owner_tells c.args.map.now c.args.d c.args.a c.segment_at.result c.is_some_and.result c.segment_at.ensures.blocks c.segment_at.ensures.segment (search rules)
+
+pub returns-clause-value : goal.returns-clause-value
+returns-clause-value c = owner_test-is_owns c.args.map.now c.args.d c.args.a c.is_some_and.result (returns-clause-owned c)
