@@ -3,6 +3,8 @@
 
 mod decoding;
 mod encoding;
+mod fields;
+mod first_word;
 mod instruction;
 mod laws;
 

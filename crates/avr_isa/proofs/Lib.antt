@@ -1,0 +1,4 @@
+pub mod Apart
+pub mod Exact
+pub mod Place
+pub mod Rows
