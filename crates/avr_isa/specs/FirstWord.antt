@@ -15,8 +15,12 @@ completed (Store r) k = Sts r k
 completed (Jump high) k = Jmp (high * 2 ^ 16 + k)
 completed (LongCall high) k = Call (high * 2 ^ 16 + k)
 
+-- an instruction of one word is this word's, whatever word follows
+abbrev pub IsWordOf : ℕ → Instr → Type 0
+IsWordOf word i = (second : Option ℕ) → Row word second i 1
+
 -- what the table says of a first word, whatever word follows
 abbrev pub IsFirstWord : ℕ → FirstWord → Type 0
-IsFirstWord word (Whole i) = (second : Option ℕ) → Row word second i 1
+IsFirstWord word (Whole i) = IsWordOf word i
 IsFirstWord word (Begun long) = (k : ℕ) → Row word (Some k) (completed long k) 2
 IsFirstWord word Undefined = HasNoRow word

@@ -1,12 +1,14 @@
 //! From words to the instruction.
+#![tactic(auto, using(crate::proofs::Outcome::outcomes, crate::proofs::Encodable::encodable))]
 
+use crate::first_word::{FirstWord, first_word};
 use crate::instruction::{DecodeError, Instr};
 
 ghost use Rattle.std.specs.Prelude.{◌≡◌, ◌↔◌, ℕ, IfOk};
 ghost use Rattle.avr_isa.specs.declared.instruction.Instr.{Instr};
 ghost use Rattle.avr_isa.specs.Decoded.{decoded};
 ghost use Rattle.avr_isa.specs.Operands.{IsEncodable};
-ghost use Rattle.avr_isa.specs.Table.{HasNoRow, HasSecondWord, Row};
+ghost use Rattle.avr_isa.specs.Table.{HasNoRow, HasSecondWord, IsDecoded, Row};
 
 /// The instruction that the words begin with, and its number of words.
 ///
@@ -20,8 +22,21 @@ pub fn decode(w0: u16, w1: Option<u16>) -> Result<(Instr, u8), DecodeError>
     ensures value { result ≡ decoded w0 w1 }
     ensures encodable { IfOk result (λ found. IsEncodable found.0) }
 {
+    outcome(w0, w1)
+}
+
+/// What the table says of the words.
+fn outcome(w0: u16, w1: Option<u16>) -> Result<(Instr, u8), DecodeError>
+    ensures row { IsDecoded w0 w1 result }
+    ensures encodable { IfOk result (λ found. IsEncodable found.0) }
+{
+    let begun = match first_word(w0) {
+        FirstWord::Whole(instruction) => return Ok((instruction, 1)),
+        FirstWord::Begun(long) => long,
+        FirstWord::Undefined => return Err(DecodeError::Undefined(w0)),
+    };
     match w1 {
-        Some(_) => Err(DecodeError::Undefined(w0)),
+        Some(second) => Ok((begun.completed(second), 2)),
         None => Err(DecodeError::NeedsSecond),
     }
 }

@@ -1,5 +1,5 @@
 //! What the first word of an instruction tells, by groups of its bits.
-#![tactic(auto, using(crate::proofs::Rows::Registers::registers, crate::proofs::Rows::Constants::constants, crate::proofs::Rows::Memory::memory, crate::proofs::Rows::Single::single, crate::proofs::Rows::Jumps::jumps, crate::proofs::Rows::Bits::bits))]
+#![tactic(auto, using(crate::proofs::Rows::Registers::registers, crate::proofs::Rows::Constants::constants, crate::proofs::Rows::Memory::memory, crate::proofs::Rows::Single::single, crate::proofs::Rows::Jumps::jumps, crate::proofs::Rows::Bits::bits, crate::proofs::Undefined::undefined_words))]
 
 use crate::fields::{
     bits, branch_offset, constant, displacement, high_address, jump_offset, pair_constant, port,
@@ -7,11 +7,11 @@ use crate::fields::{
 };
 use crate::instruction::Instr;
 
-ghost use Rattle.std.specs.Prelude.{◌≡◌, ◌/◌, ◌%◌, ◌^◌, ◌<◌, ◌≤◌, ℕ, Option};
-ghost use Rattle.avr_isa.specs.FirstWord.{IsFirstWord, completed};
-ghost use Rattle.avr_isa.specs.Table.{Row};
+ghost use Rattle.std.specs.Prelude.{◌≡◌, ◌/◌, ◌%◌, ◌^◌, ◌<◌, ◌≤◌};
+ghost use Rattle.avr_isa.specs.FirstWord.{IsFirstWord, IsWordOf, completed};
 
 /// What a first word is.
+#[derive(Clone, Copy)]
 pub(crate) enum FirstWord {
     /// An instruction of one word.
     Whole(Instr),
@@ -22,6 +22,7 @@ pub(crate) enum FirstWord {
 }
 
 /// An instruction of two words by what its first one says.
+#[derive(Clone, Copy)]
 pub(crate) enum Long {
     /// LDS to a register.
     Load(u8),
@@ -111,7 +112,7 @@ fn begins_with_six_zeros(word: u16) -> FirstWord
 
 fn signed_product(word: u16) -> Instr
     requires { word / 2 ^ 8 % 2 ^ 8 ≡ 3 }
-    ensures { (second : Option ℕ) → Row word second result 1 }
+    ensures { IsWordOf word result }
 {
     let d = 16 + bits(word, 4, 3);
     let r = 16 + bits(word, 0, 3);
@@ -127,7 +128,7 @@ fn signed_product(word: u16) -> Instr
 fn displaced(word: u16) -> Instr
     requires top { word / 2 ^ 14 % 2 ^ 2 ≡ 2 }
     requires even { word / 2 ^ 12 % 2 ^ 1 ≡ 0 }
-    ensures { (second : Option ℕ) → Row word second result 1 }
+    ensures { IsWordOf word result }
 {
     let register = register(word);
     let q = displacement(word);
@@ -256,7 +257,7 @@ fn indirect(word: u16) -> FirstWord
 fn of_small_constant(word: u16) -> Instr
     requires nine { word / 2 ^ 12 % 2 ^ 4 ≡ 9 }
     requires above { 75 ≤ word / 2 ^ 9 % 2 ^ 7 }
-    ensures { (second : Option ℕ) → Row word second result 1 }
+    ensures { IsWordOf word result }
 {
     let bit = bits(word, 0, 3);
     let low_port = bits(word, 3, 5);
@@ -273,7 +274,7 @@ fn of_small_constant(word: u16) -> Instr
 
 fn port_access(word: u16) -> Instr
     requires { word / 2 ^ 12 % 2 ^ 4 ≡ 11 }
-    ensures { (second : Option ℕ) → Row word second result 1 }
+    ensures { IsWordOf word result }
 {
     if bits(word, 11, 5) == 22 {
         Instr::In(register(word), port(word))

@@ -5,6 +5,7 @@ mod decoding;
 mod encoding;
 mod fields;
 mod first_word;
+mod formats;
 mod instruction;
 mod laws;
 
