@@ -5,6 +5,7 @@ use Rattle.std.proofs.lemmas.Int.{ints}
 use Rattle.std.specs.Prelude.{slice_get, IfSome}
 use Rattle.avr_isa.specs.Pattern.{operand, signed}
 use Rattle.avr_isa.specs.Table.{Line, Form, one_word, two_words, table, HasLine, Reads, Row}
+use Rattle.avr_isa.specs.Laws.{AreWords}
 use Rattle.avr_isa.specs.Operands.{IsEncodable, IsJumpOffset, IsBranchOffset}
 use Rattle.avr_isa.specs.declared.instruction.Instr.{Instr}
 use Prim.Native.String.{String}
@@ -143,10 +144,13 @@ reads_in_range pattern (two_words f) w (Some k) i n all below reads =
     let same : reads.0 ≡ k = cc in
     subst IsEncodable (ap (f (operand pattern w)) (sym same) ∙ sym reads.2) (all w k below)
 
-pub rows_are_encodable : (first : ℕ) (second : Option ℕ) (i : Instr) (n : ℕ) → IfSome second (λ k. k < 2 ^ 16) → Row first second i n → IsEncodable i
+row_encodable : (first : ℕ) (second : Option ℕ) (i : Instr) (n : ℕ) → IfSome second (λ k. k < 2 ^ 16) → Row first second i n → IsEncodable i
 unfolding Row
-rows_are_encodable first second i n below row =
+row_encodable first second i n below row =
     reads_in_range row.0.pattern row.0.form first second i n (line_in_range first row.0 row.1) below row.2
+
+pub rows_are_encodable : (first : ℕ) (second : Option ℕ) (i : Instr) (n : ℕ) → AreWords first second → Row first second i n → IsEncodable i
+rows_are_encodable first second i n words row = row_encodable first second i n words.1 row
 
 -- the second word is of no matter to an instruction of one word
 one_word_read : (form : Form) (at : Char → ℕ) (second other : Option ℕ) (i : Instr) → Reads form at second i 1 → Reads form at other i 1
@@ -156,9 +160,9 @@ one_word_read (two_words f) at second other i reads = absurd (let e : 1 ≡ 2 = 
 pub one_word_encodable : (first : ℕ) (second : Option ℕ) (i : Instr) → Row first second i 1 → IsEncodable i
 unfolding Row
 one_word_encodable first second i row =
-    rows_are_encodable first None i 1 tt (row.0, row.1, one_word_read row.0.form (operand row.0.pattern first) second None i row.2)
+    row_encodable first None i 1 tt (row.0, row.1, one_word_read row.0.form (operand row.0.pattern first) second None i row.2)
 
 pub two_words_encodable : (first k : ℕ) (i : Instr) → k < 2 ^ 16 → Row first (Some k) i 2 → IsEncodable i
-two_words_encodable first k i below row = rows_are_encodable first (Some k) i 2 below row
+two_words_encodable first k i below row = row_encodable first (Some k) i 2 below row
 
 pub ruleset encodable = (one_word_encodable, two_words_encodable)

@@ -5,3 +5,5 @@ pub mod Rows
 pub mod Undefined
 pub mod Outcome
 pub mod Encodable
+pub mod Unique
+pub mod Spelled
