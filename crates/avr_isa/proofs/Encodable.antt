@@ -157,10 +157,13 @@ one_word_read : (form : Form) (at : Char → ℕ) (second other : Option ℕ) (i
 one_word_read (one_word f) at second other i reads = reads
 one_word_read (two_words f) at second other i reads = absurd (let e : 1 ≡ 2 = reads.3 in cc)
 
-pub one_word_encodable : (first : ℕ) (second : Option ℕ) (i : Instr) → Row first second i 1 → IsEncodable i
+pub one_word_stands_alone : (first : ℕ) (second other : Option ℕ) (i : Instr) → Row first second i 1 → Row first other i 1
 unfolding Row
-one_word_encodable first second i row =
-    row_encodable first None i 1 tt (row.0, row.1, one_word_read row.0.form (operand row.0.pattern first) second None i row.2)
+one_word_stands_alone first second other i row =
+    (row.0, row.1, one_word_read row.0.form (operand row.0.pattern first) second other i row.2)
+
+pub one_word_encodable : (first : ℕ) (second : Option ℕ) (i : Instr) → Row first second i 1 → IsEncodable i
+one_word_encodable first second i row = row_encodable first None i 1 tt (one_word_stands_alone first second None i row)
 
 pub two_words_encodable : (first k : ℕ) (i : Instr) → k < 2 ^ 16 → Row first (Some k) i 2 → IsEncodable i
 two_words_encodable first k i below row = row_encodable first (Some k) i 2 below row

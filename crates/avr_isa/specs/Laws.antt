@@ -26,6 +26,10 @@ kept n second = if n == 2 then second else None
 abbrev pub WordsAreUnique : Type 0
 WordsAreUnique = (first other : ℕ) (second further : Option ℕ) (i : Instr) (n m : ℕ) → AreWords first second → AreWords other further → Row first second i n → Row other further i m → (first ≡ other) × (kept n second ≡ kept m further) × (n ≡ m)
 
+-- the row of an instruction of one word does not look at the word that follows
+abbrev pub OneWordStandsAlone : Type 0
+OneWordStandsAlone = (first : ℕ) (second other : Option ℕ) (i : Instr) → Row first second i 1 → Row first other i 1
+
 -- the function `decoded` gives an instruction exactly where the table has a row, and each refusal exactly where none can be
 abbrev pub DecodesRows : Type 0
 DecodesRows = (first : ℕ) (second : Option ℕ) (i : Instr) (n : ℕ) → (decoded first second ≡ Ok (i, n)) ↔ Row first second i n

@@ -1,4 +1,4 @@
--- The place of an instruction's line in the table.
+-- The place of an instruction's line in the table, counted from 0, and its second word.
 use Rattle.std.specs.Prelude.{◌%◌, ◌^◌, ℕ, Option, Some, None}
 use Rattle.avr_isa.specs.Table.{Row, word_count}
 use Rattle.avr_isa.specs.declared.instruction.Instr.{Instr}

@@ -24,7 +24,7 @@ line pattern instruction = record { pattern = pattern; form = one_word instructi
 abbrev pub line_and_word : String → ((Char → ℕ) → ℕ → Instr) → Line
 line_and_word pattern instruction = record { pattern = pattern; form = two_words instruction }
 
--- the lines, in the order of their first words
+-- the lines
 abbrev pub table : List Line
 table =
     line "0000 0000 0000 0000" (λ at. Nop)
@@ -144,7 +144,7 @@ IsTwoWords (two_words instruction) = Unit {0}
 unfoldable pub HasSecondWord : ℕ → Type 0
 HasSecondWord word = (l : Line) × HasLine word l × IsTwoWords l.form
 
--- the number of words, the second of which may be missing
+-- the number of words, where the second may be missing
 abbrev pub word_count : Option ℕ → ℕ
 word_count None = 1
 word_count (Some k) = 2

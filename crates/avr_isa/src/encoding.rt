@@ -32,7 +32,7 @@ fn words(i: &Instr) -> (u16, Option<u16>)
     ensures row { Row result.0 result.1 i.now (word_count result.1) }
     ensures words { AreWords result.0 result.1 }
 {
-    (word_of_registers(i), second(i))
+    (first_word(i), second(i))
 }
 
 /// The second word of an instruction that has one.
@@ -46,8 +46,9 @@ fn second(i: &Instr) -> Option<u16>
     }
 }
 
-/// The first word, of any instruction: here those of two registers, or of a register and a constant.
-fn word_of_registers(i: &Instr) -> u16
+/// The first word. The instructions come in the order of the table; each function below takes the next
+/// lines, and passes the later ones on. Here are those of two registers, or of a register and a constant.
+fn first_word(i: &Instr) -> u16
     requires { IsEncodable i.now }
     ensures { IsFirstWordOf result i.now }
 {
@@ -75,12 +76,12 @@ fn word_of_registers(i: &Instr) -> u16
         Instr::Subi(d, constant) => register_and_constant(5, d, constant),
         Instr::Ori(d, constant) => register_and_constant(6, d, constant),
         Instr::Andi(d, constant) => register_and_constant(7, d, constant),
-        _ => word_of_memory(i),
+        _ => first_word_from_loads(i),
     }
 }
 
-/// The first word of the instructions from there on: here the loads and stores.
-fn word_of_memory(i: &Instr) -> u16
+/// The first word from the loads on. Here are the loads and stores.
+fn first_word_from_loads(i: &Instr) -> u16
     requires operands { IsEncodable i.now }
     requires further { 23 ≤ place i.now }
     ensures { IsFirstWordOf result i.now }
@@ -112,12 +113,12 @@ fn word_of_memory(i: &Instr) -> u16
         Instr::StXInc(r) => one_register(73, r, 13),
         Instr::StXDec(r) => one_register(73, r, 14),
         Instr::Push(r) => one_register(73, r, 15),
-        _ => word_of_control(i),
+        _ => first_word_from_one_register(i),
     }
 }
 
-/// The first word of the instructions from there on: here those of one register, and control.
-fn word_of_control(i: &Instr) -> u16
+/// The first word from COM on. Here are those of one register, of a flag, and of no operand.
+fn first_word_from_one_register(i: &Instr) -> u16
     requires operands { IsEncodable i.now }
     requires further { 49 ≤ place i.now }
     ensures { IsFirstWordOf result i.now }
@@ -145,12 +146,12 @@ fn word_of_control(i: &Instr) -> u16
         Instr::Spm => 0x95E8,
         Instr::Jmp(k) => far_jump(6, (k / 0x1_0000) as u16),
         Instr::Call(k) => far_jump(7, (k / 0x1_0000) as u16),
-        _ => word_of_the_rest(i),
+        _ => first_word_from_pairs(i),
     }
 }
 
-/// The first word of the instructions from there on.
-fn word_of_the_rest(i: &Instr) -> u16
+/// The first word from ADIW on.
+fn first_word_from_pairs(i: &Instr) -> u16
     requires operands { IsEncodable i.now }
     requires further { 71 ≤ place i.now }
     ensures { IsFirstWordOf result i.now }

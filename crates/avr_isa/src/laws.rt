@@ -1,10 +1,16 @@
 //! Laws of the instruction table. Each is the contract of a function that does nothing.
 
-ghost use Rattle.avr_isa.specs.Laws.{DecodesRows, RefusesCutShort, RefusesUndefined, RowsAreEncodable, RowsAreUnique, WordsAreUnique};
+ghost use Rattle.avr_isa.specs.Laws.{DecodesRows, OneWordStandsAlone, RefusesCutShort, RefusesUndefined, RowsAreEncodable, RowsAreUnique, WordsAreUnique};
 
 /// Words have at most one row of the table.
 pub fn rows_are_unique()
     ensures { RowsAreUnique }
+{
+}
+
+/// An instruction of one word is the same whatever word follows.
+pub fn one_word_stands_alone()
+    ensures { OneWordStandsAlone }
 {
 }
 
