@@ -1,6 +1,6 @@
 -- Two patterns of which one has a 0 where the other has a 1 share no word. All lines of the table are apart in this way, so the
 -- first line that a word has is its only one.
-use Rattle.std.proofs.Common.{◌≡◌, ◌==◌, ℕ, zero, suc, Bool, true, false, ◌&&◌, ◌||◌, List, [], ◌∷◌, length, Option, Some, None, refl, if◌then◌else◌, subst, sym, inl, inr, ◌⊎◌, arith}
+use Rattle.std.proofs.Common.{◌≡◌, ◌==◌, ℕ, zero, suc, Bool, true, false, ◌&&◌, ◌||◌, List, [], ◌∷◌, length, Option, Some, refl, if◌then◌else◌, subst, inl, inr, arith}
 use Rattle.std.proofs.lemmas.Bool.{and_parts, or_cases, and_from, eqb-true, eq-eqb, false≢true}
 use Rattle.std.specs.Int.{bit_at}
 use Rattle.std.specs.Prelude.{slice_get}
@@ -46,15 +46,15 @@ opposed_no_bit s t bit h p q =
     let at : ℕ → Type 0 = λ c. Fits c bit in
     elim (or_cases ((s == 48) && (t == 49)) ((s == 49) && (t == 48)) h) [
       | inl e ↦
-        let parts = and_parts (s == 48) (t == 49) e in
-        let low : bit ≡ 0 = subst at (eqb-true s 48 parts.0) p in
-        let high : bit ≡ 1 = subst at (eqb-true t 49 parts.1) q in
-        omega arith
+          let parts = and_parts (s == 48) (t == 49) e in
+          let low : bit ≡ 0 = subst at (eqb-true s 48 parts.0) p in
+          let high : bit ≡ 1 = subst at (eqb-true t 49 parts.1) q in
+          omega arith
       | inr e ↦
-        let parts = and_parts (s == 49) (t == 48) e in
-        let high : bit ≡ 1 = subst at (eqb-true s 49 parts.0) p in
-        let low : bit ≡ 0 = subst at (eqb-true t 48 parts.1) q in
-        omega arith
+          let parts = and_parts (s == 49) (t == 48) e in
+          let high : bit ≡ 1 = subst at (eqb-true s 49 parts.0) p in
+          let low : bit ≡ 0 = subst at (eqb-true t 48 parts.1) q in
+          omega arith
     ]
 
 -- at some place, one pattern has a 0 and the other a 1
@@ -69,9 +69,9 @@ apart_no_word (s ∷ p) [] word h m n = false≢true h
 apart_no_word (s ∷ p) (t ∷ q) word h m n =
     elim (or_cases ((length p == length q) && opposed s t) (apart p q) h) [
       | inl e ↦
-        let parts = and_parts (length p == length q) (opposed s t) e in
-        let at : ℕ → Type 0 = λ k. Fits s (bit_at word k) in
-        opposed_no_bit s t (bit_at word (length q)) parts.1 (subst at (eqb-true (length p) (length q) parts.0) m.0) n.0
+          let parts = and_parts (length p == length q) (opposed s t) e in
+          let at : ℕ → Type 0 = λ k. Fits s (bit_at word k) in
+          opposed_no_bit s t (bit_at word (length q)) parts.1 (subst at (eqb-true (length p) (length q) parts.0) m.0) n.0
       | inr e ↦ apart_no_word p q word e m.1 n.1
     ]
 

@@ -1,7 +1,6 @@
 -- What the table says of words is one thing, and it is what the function `decoded` gives.
-use Rattle.std.proofs.Common.{◌≡◌, ◌↔◌, ℕ, Option, None, Some, Result, Ok, Err, refl, sym, ap, ap₂, subst, ◌∙◌}
-use Rattle.std.specs.Prelude.{slice_get}
-use Rattle.avr_isa.specs.Pattern.{symbols, Matches, operand}
+use Rattle.std.proofs.Common.{◌≡◌, ◌↔◌, ℕ, Option, None, Some, Result, Ok, Err, refl, sym, ap, ap₂, ◌∙◌}
+use Rattle.avr_isa.specs.Pattern.{operand}
 use Rattle.avr_isa.specs.Table.{Line, Form, one_word, two_words, table, HasLine, Reads, Row, HasNoRow, HasSecondWord, IsTwoWords, IsDecoded}
 use Rattle.avr_isa.specs.Decoded.{first_line, read, read_line, decoded}
 use Rattle.avr_isa.specs.declared.instruction.Instr.{Instr}

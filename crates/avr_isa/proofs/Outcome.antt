@@ -1,7 +1,6 @@
 -- The clauses of `decode` from what the table says of the words.
-use Rattle.std.proofs.Common.{◌≡◌, ◌↔◌, ℕ, Option, Some, None, Result, Ok, Err, sym, subst}
-use Rattle.avr_isa.specs.Table.{Line, Form, one_word, two_words, Reads, Row, HasNoRow, HasSecondWord, IsTwoWords, IsDecoded}
-use Rattle.avr_isa.specs.Decoded.{decoded}
+use Rattle.std.proofs.Common.{◌≡◌, ◌↔◌, ℕ, Option, None, Result, Ok, Err, sym, subst}
+use Rattle.avr_isa.specs.Table.{Form, one_word, two_words, Reads, Row, HasNoRow, HasSecondWord, IsTwoWords, IsDecoded}
 use Rattle.avr_isa.specs.declared.instruction.Instr.{Instr}
 use Rattle.avr_isa.specs.declared.instruction.DecodeError.{DecodeError}
 use Rattle.avr_isa.specs.declared.instruction.DecodeError.TheVariants.{Undefined, NeedsSecond}

@@ -1,5 +1,5 @@
 -- The clauses of `encode` from the row that its words have.
-use Rattle.std.proofs.Common.{◌≡◌, ℕ, Option, Some, None, Ok, sym, ap, ap₂, ◌∙◌, refl}
+use Rattle.std.proofs.Common.{◌≡◌, ℕ, Option, Some, None, Ok, sym, ap₂, ◌∙◌, refl}
 use Rattle.avr_isa.specs.Table.{Row, word_count}
 use Rattle.avr_isa.specs.Decoded.{decoded}
 use Rattle.avr_isa.specs.Laws.{AreWords, kept}

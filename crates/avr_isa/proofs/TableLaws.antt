@@ -1,5 +1,5 @@
 -- The laws of the table, for the proofs of the crates above.
-use Rattle.std.proofs.Common.{◌≡◌, ◌<◌, ◌≤◌, ◌^◌, ℕ, Option, Some, None, Ok, arith}
+use Rattle.std.proofs.Common.{◌≡◌, ◌≤◌, ℕ, Option, Some, None, Ok, arith}
 use Rattle.avr_isa.specs.Table.{Form, one_word, two_words, Reads, Row, word_count}
 use Rattle.avr_isa.specs.Decoded.{decoded}
 use Rattle.avr_isa.specs.Operands.{IsEncodable}

@@ -1,6 +1,6 @@
 -- Words in no line. A word that has some bits can only have the lines that are not apart from them; each of those is ruled out by
 -- a bit of its own.
-use Rattle.std.proofs.Common.{◌≡◌, ◌≢◌, ℕ, zero, suc, ◌/◌, ◌%◌, ◌^◌, Bool, true, false, List, [], ◌∷◌, Some, refl, subst, sym, if◌then◌else◌, arith}
+use Rattle.std.proofs.Common.{◌≡◌, ◌≢◌, ℕ, zero, suc, ◌/◌, ◌%◌, ◌^◌, Bool, true, false, List, [], ◌∷◌, Some, refl, subst, if◌then◌else◌, arith}
 use Rattle.std.proofs.Common.{inl, inr}
 use Rattle.std.proofs.lemmas.Bool.{cases_eq}
 use Rattle.std.specs.Prelude.{slice_get}
@@ -67,8 +67,8 @@ no_one_register_11 w at_1 at_2 = undefined "1001 010. .... 1011" w (grind arith)
 
 pub no_one_register : (w : ℕ) → w / 2 ^ 9 % 2 ^ 7 ≡ 74 → (w / 2 ^ 0 % 2 ^ 4 ≢ 4 → w / 2 ^ 0 % 2 ^ 4 ≡ 11) → HasNoRow w
 no_one_register w at_1 low = elim (cases_eq (w / 2 ^ 0 % 2 ^ 4) 4) [
-      | inl four ↦ no_one_register_4 w at_1 four
-      | inr more ↦ no_one_register_11 w at_1 (low more)
-    ]
+  | inl four ↦ no_one_register_4 w at_1 four
+  | inr more ↦ no_one_register_11 w at_1 (low more)
+]
 
 pub ruleset undefined_words = (no_nop, no_load, no_store, no_control, no_indirect, no_register_bit, no_one_register)

@@ -1,12 +1,12 @@
 -- The words of an instruction are determined: an instruction tells its line, its operands tell the numbers at the line's letters,
 -- and these tell the bits.
-use Rattle.std.proofs.Common.{◌≡◌, ◌≢◌, ◌==◌, ◌<◌, ◌+◌, ◌^◌, ◌*◌, ℕ, zero, suc, Bool, true, false, not, ◌&&◌, ◌||◌, List, [], ◌∷◌, length, Option, Some, None, refl, sym, ap, subst, ◌∙◌, if◌then◌else◌, inl, inr, arith}
+use Rattle.std.proofs.Common.{◌≡◌, ◌==◌, ◌<◌, ◌+◌, ◌^◌, ◌*◌, ℕ, zero, suc, Bool, true, false, ◌&&◌, ◌||◌, List, [], ◌∷◌, length, Option, Some, None, refl, sym, ap, subst, ◌∙◌, if◌then◌else◌, inl, inr, arith}
 use Rattle.std.proofs.lemmas.Bool.{and_parts, or_cases, eqb-true, cases_lt, false≢true}
 use Rattle.std.proofs.lemmas.Bool.Decides.{nat_tests}
 use Rattle.std.proofs.lemmas.Int.{ints}
 use Rattle.std.proofs.lemmas.Nat.Bits.{bit_at-lt, same_from_bits_below}
 use Rattle.std.specs.Int.{bit_at}
-use Rattle.std.specs.Prelude.{slice_get, IfSome}
+use Rattle.std.specs.Prelude.{slice_get}
 use Rattle.avr_isa.specs.Pattern.{symbols, Fits, Matches, joined, operand, signed}
 use Rattle.avr_isa.specs.Table.{Line, Form, one_word, two_words, table, HasLine, Reads, Row}
 use Rattle.avr_isa.specs.Place.{place}
@@ -97,9 +97,9 @@ same_below (x ∷ rest) some v w h p q same k below =
     elim (cases_lt k (length rest)) [
       | inl lower ↦ same_below rest some v w parts.1 p.1 q.1 (later_same x some rest v w same) k lower
       | inr top ↦
-        let e : length rest ≡ k = omega arith in
-        let P : ℕ → Type 0 = λ j. bit_at v j ≡ bit_at w j in
-        subst P e (same_bit x some rest v w parts.0 p.0 q.0 same)
+          let e : length rest ≡ k = omega arith in
+          let P : ℕ → Type 0 = λ j. bit_at v j ≡ bit_at w j in
+          subst P e (same_bit x some rest v w parts.0 p.0 q.0 same)
     ]
 
 -- ---- the facts of each line

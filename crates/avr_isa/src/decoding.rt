@@ -1,14 +1,14 @@
 //! From words to the instruction.
 #![tactic(auto, using(crate::proofs::Outcome::outcomes, crate::proofs::Encodable::encodable))]
 
-use crate::first_word::{FirstWord, first_word};
-use crate::instruction::{DecodeError, Instr};
-
 ghost use Rattle.std.specs.Prelude.{◌≡◌, ◌↔◌, ◌≤◌, ℕ, IfOk};
 ghost use Rattle.avr_isa.specs.declared.instruction.Instr.{Instr};
 ghost use Rattle.avr_isa.specs.Decoded.{decoded};
 ghost use Rattle.avr_isa.specs.Operands.{IsEncodable};
 ghost use Rattle.avr_isa.specs.Table.{HasNoRow, HasSecondWord, IsDecoded, Row, word_count};
+
+use crate::first_word::{FirstWord, first_word};
+use crate::instruction::{DecodeError, Instr};
 
 /// The instruction that the words begin with, and its number of words.
 ///

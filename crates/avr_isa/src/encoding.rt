@@ -1,18 +1,18 @@
 //! From the instruction to its words.
 #![tactic(auto, using(crate::proofs::Rows::Registers::registers, crate::proofs::Rows::Constants::constants, crate::proofs::Rows::Memory::memory, crate::proofs::Rows::Single::single, crate::proofs::Rows::Jumps::jumps, crate::proofs::Rows::Bits::bits), unfolding(crate::specs::Operands::IsEncodable))]
 
-use crate::formats::{
-    branch, far_jump, one_register, pair_and_constant, port_bit, register_and_constant,
-    register_and_port, register_bit, relative_jump, two_halves, two_registers, with_displacement,
-};
-use crate::instruction::Instr;
-
 ghost use Rattle.std.specs.Prelude.{◌≡◌, ◌≤◌, ℕ, Option};
 ghost use Rattle.avr_isa.specs.Decoded.{decoded};
 ghost use Rattle.avr_isa.specs.Laws.{AreWords, kept};
 ghost use Rattle.avr_isa.specs.Operands.{IsEncodable};
 ghost use Rattle.avr_isa.specs.Place.{IsFirstWordOf, place, second_word};
 ghost use Rattle.avr_isa.specs.Table.{Row, word_count};
+
+use crate::formats::{
+    branch, far_jump, one_register, pair_and_constant, port_bit, register_and_constant,
+    register_and_port, register_bit, relative_jump, two_halves, two_registers, with_displacement,
+};
+use crate::instruction::Instr;
 
 /// The words of an instruction. The second is `None` where it has one word.
 #[tactic(auto, using(crate::proofs::Spelled::spelled))]

@@ -88,5 +88,9 @@ pub(crate) fn branch_offset(word: u16) -> i8
     ensures { result ≡ signed 7 (word / 2 ^ 3 % 2 ^ 7) }
 {
     let offset = bits(word, 3, 7);
-    if offset < 64 { offset as i8 } else { (offset as i16 - 128) as i8 }
+    if offset < 64 {
+        offset as i8
+    } else {
+        (offset as i16 - 128) as i8
+    }
 }

@@ -1,14 +1,14 @@
 //! What the first word of an instruction tells, by groups of its bits.
 #![tactic(auto, using(crate::proofs::Rows::Registers::registers, crate::proofs::Rows::Constants::constants, crate::proofs::Rows::Memory::memory, crate::proofs::Rows::Single::single, crate::proofs::Rows::Jumps::jumps, crate::proofs::Rows::Bits::bits, crate::proofs::Undefined::undefined_words))]
 
+ghost use Rattle.std.specs.Prelude.{◌≡◌, ◌/◌, ◌%◌, ◌^◌, ◌<◌, ◌≤◌};
+ghost use Rattle.avr_isa.specs.FirstWord.{IsFirstWord, IsWordOf, completed};
+
 use crate::fields::{
     bits, branch_offset, constant, displacement, high_address, jump_offset, pair_constant, port,
     register, second_register, upper_pair, upper_register,
 };
 use crate::instruction::Instr;
-
-ghost use Rattle.std.specs.Prelude.{◌≡◌, ◌/◌, ◌%◌, ◌^◌, ◌<◌, ◌≤◌};
-ghost use Rattle.avr_isa.specs.FirstWord.{IsFirstWord, IsWordOf, completed};
 
 /// What a first word is.
 #[derive(Clone, Copy)]
@@ -225,7 +225,11 @@ fn control(word: u16) -> FirstWord
 {
     if bits(word, 8, 1) == 0 {
         let s = bits(word, 4, 3);
-        return FirstWord::Whole(if bits(word, 7, 1) == 0 { Instr::Bset(s) } else { Instr::Bclr(s) });
+        return FirstWord::Whole(if bits(word, 7, 1) == 0 {
+            Instr::Bset(s)
+        } else {
+            Instr::Bclr(s)
+        });
     }
     match bits(word, 4, 5) {
         16 => FirstWord::Whole(Instr::Ret),

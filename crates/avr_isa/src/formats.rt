@@ -150,6 +150,10 @@ pub(crate) fn branch(opcode: u16, bit: u8, offset: i8) -> u16
     ensures bit { bit ≡ result / 2 ^ 0 % 2 ^ 3 }
     ensures offset { offset ≡ signed 7 (result / 2 ^ 3 % 2 ^ 7) }
 {
-    let wrapped = if offset < 0 { offset as i16 + 128 } else { offset as i16 };
+    let wrapped = if offset < 0 {
+        offset as i16 + 128
+    } else {
+        offset as i16
+    };
     opcode * 0x400 + wrapped as u16 * 8 + bit as u16
 }

@@ -19,4 +19,7 @@ mod tests;
 pub use decoding::decode;
 pub use encoding::encode;
 pub use instruction::{DecodeError, Instr};
-pub use laws::{decoded_is_the_table, one_word_stands_alone, rows_are_encodable, rows_are_unique, words_are_unique};
+pub use laws::{
+    decoded_is_the_table, one_word_stands_alone, rows_are_encodable, rows_are_unique,
+    words_are_unique,
+};

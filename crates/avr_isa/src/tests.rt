@@ -1,15 +1,18 @@
 //! Words of each instruction and their operands, worked out by hand from the instruction set manual.
 
-use std::process::Abort;
-
 use crate::{DecodeError, Instr, decode, encode};
+use std::process::Abort;
 
 /// Decodes the words of each row to its instruction, and encodes that to the words again.
 fn check_rows(rt: &impl Abort, rows: &[(u16, Option<u16>, Instr)]) {
     for (first, second, expected) in rows {
         let (found, count) = decode(*first, *second).expect(rt, "an instruction");
         assert!(rt; found == *expected, "at {first:#06x}");
-        assert_eq!(rt; count, if second.is_some() { 2 } else { 1 }, "at {first:#06x}");
+        assert_eq!(rt;
+            count,
+            if second.is_some() { 2 } else { 1 },
+            "at {first:#06x}"
+        );
         assert!(rt; encode(&found) == (*first, *second), "at {first:#06x}");
     }
 }
@@ -151,14 +154,22 @@ fn ends_of_the_ranges(rt: HostRuntime) {
 #[test]
 fn refusals(rt: HostRuntime) {
     // Exchange and its kin, DES, SPM Z+, EIJMP and EICALL belong to other parts.
-    for word in [0x0001, 0x9204, 0x9205, 0x9206, 0x9207, 0x940B, 0x95F8, 0x9419, 0x9519, 0xF808] {
+    for word in [
+        0x0001, 0x9204, 0x9205, 0x9206, 0x9207, 0x940B, 0x95F8, 0x9419, 0x9519, 0xF808,
+    ] {
         for second in [None, Some(0)] {
             let refused = decode(word, second).err();
-            assert!(rt; refused == Some(DecodeError::Undefined(word)), "at {word:#06x}");
+            assert!(rt;
+                refused == Some(DecodeError::Undefined(word)),
+                "at {word:#06x}"
+            );
         }
     }
     for word in [0x9000, 0x9200, 0x940C, 0x940E] {
-        assert!(rt; decode(word, None).err() == Some(DecodeError::NeedsSecond), "at {word:#06x}");
+        assert!(rt;
+            decode(word, None).err() == Some(DecodeError::NeedsSecond),
+            "at {word:#06x}"
+        );
         assert!(rt; decode(word, Some(0)).is_ok(), "at {word:#06x}");
     }
 }

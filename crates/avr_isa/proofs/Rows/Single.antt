@@ -1,5 +1,5 @@
 -- Instructions of one register or of none. Each lemma is a line of the table: the bits that it fixes, and its operands as parts of the word.
-use Rattle.std.proofs.Common.{◌≡◌, ℕ, ◌+◌, ◌/◌, ◌%◌, ◌^◌, Option, refl, arith}
+use Rattle.std.proofs.Common.{◌≡◌, ℕ, ◌/◌, ◌%◌, ◌^◌, Option, refl, arith}
 use Rattle.avr_isa.specs.Table.{Row}
 use Rattle.avr_isa.specs.declared.instruction.Instr.TheVariants.{Com, Neg, Swap, Inc, Asr, Lsr, Ror, Dec, Bset, Bclr, Ijmp, Icall, Ret, Reti, Sleep, Break, Wdr, LpmR0, ElpmR0, Spm}
 use Rattle.avr_isa.proofs.Place.{row_at}
