@@ -8,6 +8,7 @@ use Rattle.avr_isa.specs.Table.{Line, Form, one_word, two_words, table, HasLine,
 use Rattle.avr_isa.specs.Laws.{AreWords}
 use Rattle.avr_isa.specs.Operands.{IsEncodable, IsJumpOffset, IsBranchOffset}
 use Rattle.avr_isa.specs.declared.instruction.Instr.{Instr}
+use Rattle.avr_isa.proofs.Listed.{◌▸◌}
 use Prim.Native.String.{String}
 use Prim.Native.Char.{Char}
 
@@ -19,11 +20,6 @@ InRange pattern (two_words f) = (w k : ℕ) → k < 2 ^ 16 → IsEncodable (f (o
 abbrev AllInRange : List Line → Type 0
 AllInRange [] = Unit {0}
 AllInRange (l ∷ ls) = InRange l.pattern l.form × AllInRange ls
-
--- a line's fact before those of the lines after it
-infixr 5 ◌▸◌
-abbrev ◌▸◌ : {P Q : Type 0} → P → Q → P × Q
-p ▸ q = (p, q)
 
 jump_in_range : (n : ℕ) → n < 2 ^ 12 → IsJumpOffset (signed 12 n)
 jump_in_range n below = grind (arith, nat_tests, ints)

@@ -1,6 +1,7 @@
 pub mod Apart
 pub mod Encodable
 pub mod Exact
+pub mod Listed
 pub mod Outcome
 pub mod Place
 pub mod Rows

@@ -12,6 +12,7 @@ use Rattle.avr_isa.specs.Table.{Line, Form, one_word, two_words, table, HasLine,
 use Rattle.avr_isa.specs.Place.{place}
 use Rattle.avr_isa.specs.Laws.{AreWords, kept}
 use Rattle.avr_isa.specs.declared.instruction.Instr.{Instr}
+use Rattle.avr_isa.proofs.Listed.{◌▸◌}
 use Prim.Native.String.{String}
 use Prim.Native.Char.{Char}
 
@@ -141,11 +142,6 @@ signed_12_same m n p q e = grind (arith, nat_tests, ints)
 
 signed_7_same : (m n : ℕ) → m < 2 ^ 7 → n < 2 ^ 7 → signed 7 m ≡ signed 7 n → m ≡ n
 signed_7_same m n p q e = grind (arith, nat_tests, ints)
-
--- a line's fact before those of the lines after it
-infixr 5 ◌▸◌
-abbrev ◌▸◌ : {P Q : Type 0} → P → Q → P × Q
-p ▸ q = (p, q)
 
 table_tells : AllTell 0 table
 table_tells =

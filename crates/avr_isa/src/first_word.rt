@@ -92,6 +92,7 @@ fn of_two_registers(word: u16) -> FirstWord
     }
 }
 
+/// The first words that begin with 0000 00: no operation, a pair to a pair, or a product.
 fn begins_with_six_zeros(word: u16) -> FirstWord
     requires { word / 2 ^ 10 % 2 ^ 6 ≡ 0 }
     ensures { IsFirstWord word result }
@@ -106,11 +107,12 @@ fn begins_with_six_zeros(word: u16) -> FirstWord
         }
         1 => FirstWord::Whole(Instr::Movw(2 * bits(word, 4, 4), 2 * bits(word, 0, 4))),
         2 => FirstWord::Whole(Instr::Muls(16 + bits(word, 4, 4), 16 + bits(word, 0, 4))),
-        _ => FirstWord::Whole(signed_product(word)),
+        _ => FirstWord::Whole(product_of_middle_registers(word)),
     }
 }
 
-fn signed_product(word: u16) -> Instr
+/// Products of two of R16 to R23, `0000 0011 xddd xrrr`.
+fn product_of_middle_registers(word: u16) -> Instr
     requires { word / 2 ^ 8 % 2 ^ 8 ≡ 3 }
     ensures { IsWordOf word result }
 {
@@ -124,7 +126,7 @@ fn signed_product(word: u16) -> Instr
     }
 }
 
-/// Loads and stores with a displacement, `10q0 qq..`.
+/// Loads and stores with a displacement, `10q0 qqxd dddd xqqq`.
 fn displaced(word: u16) -> Instr
     requires top { word / 2 ^ 14 % 2 ^ 2 ≡ 2 }
     requires even { word / 2 ^ 12 % 2 ^ 1 ≡ 0 }
@@ -140,6 +142,7 @@ fn displaced(word: u16) -> Instr
     }
 }
 
+/// The first words that begin with 1001.
 fn begins_with_nine(word: u16) -> FirstWord
     requires { word / 2 ^ 12 % 2 ^ 4 ≡ 9 }
     ensures { IsFirstWord word result }
@@ -152,6 +155,7 @@ fn begins_with_nine(word: u16) -> FirstWord
     }
 }
 
+/// Loads without a displacement, from the program memory too, and POP: `1001 000d dddd xxxx`.
 fn load(word: u16) -> FirstWord
     requires { word / 2 ^ 9 % 2 ^ 7 ≡ 72 }
     ensures { IsFirstWord word result }
@@ -175,6 +179,7 @@ fn load(word: u16) -> FirstWord
     }
 }
 
+/// Stores without a displacement, and PUSH: `1001 001r rrrr xxxx`.
 fn store(word: u16) -> FirstWord
     requires { word / 2 ^ 9 % 2 ^ 7 ≡ 73 }
     ensures { IsFirstWord word result }
@@ -276,6 +281,7 @@ fn of_small_constant(word: u16) -> Instr
     }
 }
 
+/// IN and OUT, `1011 xAAd dddd AAAA`.
 fn port_access(word: u16) -> Instr
     requires { word / 2 ^ 12 % 2 ^ 4 ≡ 11 }
     ensures { IsWordOf word result }
@@ -287,6 +293,7 @@ fn port_access(word: u16) -> Instr
     }
 }
 
+/// The first words that begin with 1111: a branch, or a bit of a register.
 fn begins_with_fifteen(word: u16) -> FirstWord
     requires { word / 2 ^ 12 % 2 ^ 4 ≡ 15 }
     ensures { IsFirstWord word result }
@@ -298,7 +305,7 @@ fn begins_with_fifteen(word: u16) -> FirstWord
     }
 }
 
-/// A bit of a register, `1111 1... .... 0bbb`.
+/// A bit of a register, `1111 1xxd dddd 0bbb`.
 fn of_a_register_bit(word: u16) -> FirstWord
     requires { word / 2 ^ 11 % 2 ^ 5 ≡ 31 }
     ensures { IsFirstWord word result }
