@@ -5,3 +5,6 @@ pub mod BlockLaws
 pub mod ActLaws
 pub mod MachineLaws
 pub mod TurnLaws
+pub mod FewerLaws
+pub mod StartLaws
+pub mod RunLaws
