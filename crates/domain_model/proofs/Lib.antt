@@ -8,3 +8,4 @@ pub mod TurnLaws
 pub mod FewerLaws
 pub mod StartLaws
 pub mod RunLaws
+pub mod ConfinedLaws
