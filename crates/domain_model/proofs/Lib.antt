@@ -9,3 +9,6 @@ pub mod FewerLaws
 pub mod StartLaws
 pub mod RunLaws
 pub mod ConfinedLaws
+pub mod CrossingLaws
+pub mod UnloadLaws
+pub mod LawfulLaws
