@@ -12,3 +12,4 @@ pub mod ConfinedLaws
 pub mod CrossingLaws
 pub mod UnloadLaws
 pub mod LawfulLaws
+pub mod ImageLaws
