@@ -139,7 +139,7 @@ fields_written m h =
     cond-true (is_image (image_bytes m)) (Some (fields (image_bytes m))) None (is_written m h.known.0 h.known.1 h.size)
     ∙ same_fields m (word_at (image_bytes m) 7) (words_of (drop 15 (image_bytes m))) (word_of_bytes m.state_size) (words_back m.code)
 
-image_read : (bytes : List ℕ) (m : Image) → AllByRecursion (λ b. b < 256) bytes → image_of bytes ≡ Some m → IsImage bytes m
+pub image_read : (bytes : List ℕ) (m : Image) → AllByRecursion (λ b. b < 256) bytes → image_of bytes ≡ Some m → IsImage bytes m
 image_read bytes m h e =
     elim (cases_Bool (is_image bytes)) [
       | inl image ↦ subst (IsImage bytes) (same_Some (fields bytes) m (sym (cond-true (is_image bytes) (Some (fields bytes)) None image) ∙ e)) (fields_read bytes h image)

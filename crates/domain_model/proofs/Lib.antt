@@ -13,3 +13,4 @@ pub mod CrossingLaws
 pub mod UnloadLaws
 pub mod LawfulLaws
 pub mod ImageLaws
+pub mod UnitLaws
