@@ -23,6 +23,8 @@ mod line;
 mod lines;
 mod module;
 mod request;
+#[cfg(test)]
+mod tests;
 mod unit;
 
 pub use event::{Choice, Event, Turned, What};
