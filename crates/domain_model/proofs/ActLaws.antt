@@ -7,7 +7,7 @@ use Rattle.std.proofs.lemmas.Option.{none-some, same_Some, slice_get-get_or}
 use Rattle.std.proofs.lemmas.List.{length-set}
 use Rattle.avr_isa.specs.declared.instruction.Instr.{Instr}
 use Rattle.avr_isa.specs.declared.instruction.Instr.TheVariants.{Ldi, Mov, StX}
-use Rattle.mote_layout.specs.Memory.{ram_start, ram_end}
+use Rattle.mote_layout.specs.Memory.{ram_start, ram_end, bank_words}
 use Rattle.domain_model.specs.declared.unit.Unit.{Unit}
 use Rattle.domain_model.specs.declared.unit.Unit.TheVariants.{Plain, Store, KernelCall, Return}
 use Rattle.domain_model.specs.declared.handler.Running.{Running}
@@ -101,6 +101,10 @@ next_unit_built k r run h i =
 
 pub unit_is_built : (k : KernelState) (r : RunnerState) (run : Running) (u : Unit) → GoodMachine k r → k.running ≡ Some run → next_unit r run ≡ Some u → IsBuilt u
 unit_is_built k r run u h i e = each_at IsBuilt (bank r run.domain) r.unit u (bank_proper k r run h i).built e
+
+-- its number is that of a word of a bank
+pub unit_in_bank : (k : KernelState) (r : RunnerState) (run : Running) → GoodMachine k r → k.running ≡ Some run → r.unit < bank_words
+unit_in_bank k r run h i = omega (arith, (running_good k r run h i).0.unit, (bank_proper k r run h i).fits)
 
 -- behind a unit that is no return stands another
 not_last : (us : List Unit) (i : ℕ) (u : Unit) → ends_in_return us ≡ true → slice_get us i ≡ Some u → is_return u ≡ false → i + 1 < length us

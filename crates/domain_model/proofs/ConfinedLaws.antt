@@ -174,7 +174,8 @@ running_fault (Some run) k r note e = at_fault (next_unit r run) run k r note e
 pub fault_changes_nothing : (k : KernelState) (r : RunnerState) (note : FaultNote) → (act k r).ending ≡ Fault note → (act k r).kernel ≡ k
 fault_changes_nothing k r note e = running_fault k.running k r note e
 
-fault_bytes : (k : KernelState) (r : RunnerState) (got : Acted) (note : FaultNote) → UnitStep k r got → (act k r).ending ≡ Fault note → (i : ℕ) → slice_index got.kernel.processor.memory i ≢ slice_index k.processor.memory i → MayChangeAtFault k (i + ram_start)
+-- so its bytes are free ones
+pub fault_bytes : (k : KernelState) (r : RunnerState) (got : Acted) (note : FaultNote) → UnitStep k r got → (act k r).ending ≡ Fault note → (i : ℕ) → slice_index got.kernel.processor.memory i ≢ slice_index k.processor.memory i → MayChangeAtFault k (i + ram_start)
 fault_bytes k r got note step e i differs =
     let top = dead_at_fault (act k r).ending k (act k r).kernel note e in
     let old = ap (λ (n : KernelState). slice_index n.processor.memory i) (fault_changes_nothing k r note e) in

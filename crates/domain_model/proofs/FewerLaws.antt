@@ -35,7 +35,8 @@ late_after (x ∷ xs) e first =
     let same : x.time ≡ e.time = ap (λ (y : Event). y.time) (same_Some x e first) in
     rw (le-ltb e.time x.time (omega (arith, same))) refl
 
-made_fewer : (c : Choice) (s : State) (got : Acted) → Good s → Facts c s → s.ended ≡ More → remaining (made c s got).state < remaining s
+-- what a turn makes of a live state has fewer to come
+pub made_fewer : (c : Choice) (s : State) (got : Acted) → Good s → Facts c s → s.ended ≡ More → remaining (made c s got).state < remaining s
 unfolding remaining
 made_fewer Stays s got g facts live = absurd (facts live)
 made_fewer (Comes e) s got g facts live =

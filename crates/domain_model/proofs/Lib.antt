@@ -11,6 +11,7 @@ pub mod RunLaws
 pub mod ConfinedLaws
 pub mod CrossingLaws
 pub mod UnloadLaws
+pub mod OthersLaws
 pub mod LawfulLaws
 pub mod ImageLaws
 pub mod UnitLaws

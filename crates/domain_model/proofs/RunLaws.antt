@@ -1,11 +1,11 @@
 -- Every run from a good state ends.
-use Rattle.std.proofs.Common.{◌≡◌, ◌≢◌, ℕ, zero, suc, ◌+◌, ◌<◌, ◌≤◌, ◌⊎◌, inl, inr, List, [], ◌∷◌, ◌++◌, refl, arith}
+use Rattle.std.proofs.Common.{◌≡◌, ◌≢◌, ℕ, zero, suc, ◌+◌, ◌<◌, ◌≤◌, ◌⊎◌, inl, inr, List, [], ◌∷◌, ◌++◌, append_assoc, refl, sym, subst, arith}
 use Rattle.domain_model.specs.declared.event.Turned.{Turned}
 use Rattle.domain_model.specs.declared.event.Turned.TheVariants.{More, EndIdle, EndBudget}
 use Rattle.domain_model.specs.declared.line.TraceLine.{TraceLine}
 use Rattle.domain_model.specs.State.{State}
 use Rattle.domain_model.specs.Act.{act}
-use Rattle.domain_model.specs.Turn.{choice, made, Made, RunBy, RunFrom, over, more}
+use Rattle.domain_model.specs.Turn.{choice, made, Made, Turn, RunBy, RunFrom, over, more}
 use Rattle.domain_model.specs.Good.{Good}
 use Rattle.domain_model.specs.Laws.{RunsEnd}
 use Rattle.domain_model.specs.Remaining.{remaining}
@@ -35,3 +35,8 @@ ends_within (suc n) s g h =
 
 pub runs_end : RunsEnd
 runs_end s g = ends_within (remaining s + 1) s g (omega arith)
+
+-- A run so far leads from the first state to a later one: what runs on from there is a run from the first.
+pub run_on : (first s t : State) (told lines : List TraceLine) → ((rest : List TraceLine) → RunFrom s rest → RunFrom first (told ++ rest)) → s.ended ≡ More → Turn s t lines → (rest : List TraceLine) → RunFrom t rest → RunFrom first ((told ++ lines) ++ rest)
+run_on first s t told lines so_far live turn rest run =
+    subst (RunFrom first) (sym (append_assoc told lines rest)) (so_far (lines ++ rest) (more t lines rest live turn run))

@@ -20,7 +20,7 @@ use Rattle.domain_model.specs.declared.line.TraceLine.TheVariants as line
 use Rattle.domain_model.specs.Image.{Module}
 use Rattle.domain_model.specs.State.{KernelState, RunnerState, State}
 use Rattle.domain_model.specs.Act.{Acted, act, id_at}
-use Rattle.domain_model.specs.Free.{with_memory}
+use Rattle.domain_model.specs.Free.{UnitStep, with_memory}
 use Rattle.domain_model.specs.Turn.{in_use, Given, given, free_domain, is_loaded, Moved, came, load_image, load_new, load_in, load_given, settled, faulted, watchdog, purged, handler_ended, at_clock, choice, made, May, Turn}
 use Rattle.domain_model.specs.Good.{GoodMachine, GoodModule, Good}
 use Rattle.domain_model.specs.Laws.{Names, a_module, the_message, a_block, a_lost_payload, the_running, UnloadsCleanly}
@@ -35,7 +35,7 @@ use Rattle.domain_model.proofs.TurnLaws.{with_bytes, leaves, step_processor_alon
 -- What a purge leaves names nothing of the module.
 
 -- the module of that id in a loaded domain is the domain's
-its_domain : (k : KernelState) (r : RunnerState) (domain : ℕ) (m : ModuleRow) → GoodMachine k r → in_use k.modules domain ≡ true → Contains k.modules m → id_at k.modules domain ≡ m.id → m.domain ≡ domain
+pub its_domain : (k : KernelState) (r : RunnerState) (domain : ℕ) (m : ModuleRow) → GoodMachine k r → in_use k.modules domain ≡ true → Contains k.modules m → id_at k.modules domain ≡ m.id → m.domain ≡ domain
 its_domain k r domain m h used c e =
     let f = found k.modules domain used in
     let same = same_module k.modules m f.row h.distinct c f.contained (inl (sym e ∙ found_id k.modules domain f)) in
@@ -73,10 +73,10 @@ names_alike k n id domain modules hand blocks running (the_running run e same) =
 
 
 -- Lines that unload no module.
-abbrev IsQuiet : List TraceLine → Type 0
+abbrev pub IsQuiet : List TraceLine → Type 0
 IsQuiet lines = (time id : ℕ) → Contains lines (line.Unload time id) → ⊥
 
-abbrev is_unload : TraceLine → Bool
+abbrev pub is_unload : TraceLine → Bool
 is_unload (line.Load t i d s) = false
 is_unload (line.Refused t i n k p q) = false
 is_unload (line.Run t i m f) = false
@@ -87,7 +87,7 @@ is_unload (line.Unload t i) = true
 is_unload (line.EndIdle t) = false
 is_unload (line.EndBudget t) = false
 
-quiet_by : (lines : List TraceLine) → list_any is_unload lines ≡ false → IsQuiet lines
+pub quiet_by : (lines : List TraceLine) → list_any is_unload lines ≡ false → IsQuiet lines
 quiet_by lines h time id c =
     true≢false (each_contained (λ x. is_unload x ≡ false) lines (line.Unload time id) (any_nowhere is_unload lines h) c)
 
@@ -108,12 +108,12 @@ image_quiet None image k r = quiet_by [] refl
 image_quiet (Some None) image k r = quiet_by [] refl
 image_quiet (Some (Some m)) image k r = new_quiet (is_loaded k.modules m.id) m image k r
 
-came_quiet : (images : List (Option Module)) (w : What) (k : KernelState) (r : RunnerState) → IsQuiet (came images w k r).lines
+pub came_quiet : (images : List (Option Module)) (w : What) (k : KernelState) (r : RunnerState) → IsQuiet (came images w k r).lines
 came_quiet images (what.Load n) k r = image_quiet (slice_get images n) n k r
 
 -- A fault unloads the module of the running domain.
 
-unloaded_id : (lines : List TraceLine) (x : TraceLine) (at id time : ℕ) (other : ℕ) → is_unload x ≡ false → IsQuiet lines → Contains (lines ++ x ∷ line.Unload at other ∷ []) (line.Unload time id) → other ≡ id
+pub unloaded_id : (lines : List TraceLine) (x : TraceLine) (at id time : ℕ) (other : ℕ) → is_unload x ≡ false → IsQuiet lines → Contains (lines ++ x ∷ line.Unload at other ∷ []) (line.Unload time id) → other ≡ id
 unloaded_id lines x at id time other not_it quiet c =
     elim (Contains-append_cases lines (x ∷ line.Unload at other ∷ []) (line.Unload time id) c) [
       | inl before ↦ absurd (quiet time id before)
@@ -135,13 +135,21 @@ faulted_clean note run k r lines h i quiet time m c cm =
     let e = its_domain k r run.domain m h (running_good k r run h i).0.loaded cm id in
     subst (λ (d : ℕ). ¬ Names (purged (handler_ended k) d) m.id m.domain) e (purged_names k r m h cm)
 
+-- a unit's step unloads nothing, nor does a handler's end
+pub step_quiet : (k : KernelState) (r : RunnerState) (got : Acted) → UnitStep k r got → IsQuiet got.lines
+step_quiet k r got step time id h =
+    act_unloads_nothing k r time id (subst (λ (xs : List TraceLine). Contains xs (line.Unload time id)) step.lines h)
+
+pub done_quiet : (run : Running) (k : KernelState) (r : RunnerState) (lines : List TraceLine) → IsQuiet lines → IsQuiet (settled Over run k r lines).lines
+done_quiet run k r lines quiet time id c =
+    elim (Contains-append_cases lines (line.Done k.clock (id_at k.modules run.domain) ∷ []) (line.Unload time id) c) [
+      | inl before ↦ quiet time id before
+      | inr later ↦ quiet_by (line.Done k.clock (id_at k.modules run.domain) ∷ []) refl time id later
+    ]
+
 settled_clean : (e : UnitEnd) (run : Running) (k : KernelState) (r : RunnerState) (lines : List TraceLine) → GoodMachine k r → k.running ≡ Some run → IsQuiet lines → (time : ℕ) (m : ModuleRow) → Contains (settled e run k r lines).lines (line.Unload time m.id) → Contains k.modules m → ¬ Names (settled e run k r lines).kernel m.id m.domain
 settled_clean On run k r lines h i quiet time m c cm = absurd (quiet time m.id c)
-settled_clean Over run k r lines h i quiet time m c cm =
-    elim (Contains-append_cases lines (line.Done k.clock (id_at k.modules run.domain) ∷ []) (line.Unload time m.id) c) [
-      | inl before ↦ absurd (quiet time m.id before)
-      | inr later ↦ absurd (quiet_by (line.Done k.clock (id_at k.modules run.domain) ∷ []) refl time m.id later)
-    ]
+settled_clean Over run k r lines h i quiet time m c cm = absurd (done_quiet run k r lines quiet time m.id c)
 settled_clean (Fault note) run k r lines h i quiet time m c cm = faulted_clean note run k r lines h i quiet time m c cm
 
 made_clean : (c : Choice) (s : State) (got : Acted) → Good s → Facts c s → May c s got → UnloadsCleanly s (made c s got).state (made c s got).lines
@@ -153,11 +161,10 @@ made_clean Budgets s got g facts may time m c cm = absurd (quiet_by (line.EndBud
 made_clean (Watches run) s got g facts may time m c cm = faulted_clean (watchdog s) run s.kernel s.runner [] g.machine facts.running (quiet_by [] refl) time m c cm
 made_clean (Acts run) s got g facts may time m c cm =
     let rest = step_processor_alone s.kernel s.runner got may in
-    let quiet : IsQuiet got.lines = λ at id h. act_unloads_nothing s.kernel s.runner at id (subst (λ (xs : List TraceLine). Contains xs (line.Unload at id)) may.lines h) in
     let running : got.kernel.running ≡ Some run = ap (λ (k : KernelState). k.running) rest ∙ facts.running in
     let there : Contains got.kernel.modules m = subst (λ (k : KernelState). Contains k.modules m) (sym rest) cm in
     λ names.
-        settled_clean got.ending run got.kernel got.runner got.lines (step_good s.kernel s.runner got may g.machine) running quiet time m c there
+        settled_clean got.ending run got.kernel got.runner got.lines (step_good s.kernel s.runner got may g.machine) running (step_quiet s.kernel s.runner got may) time m c there
         (names_alike (settled got.ending run got.kernel got.runner got.lines).kernel _ m.id m.domain refl refl refl refl names)
 
 pub turn_unloads : (s t : State) (lines : List TraceLine) → Good s → Turn s t lines → UnloadsCleanly s t lines
