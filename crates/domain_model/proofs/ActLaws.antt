@@ -1,9 +1,8 @@
 -- What one unit does: it changes the processor alone, keeps the stack pointer, and leaves a next unit.
-use Rattle.std.proofs.Common.{◌≡◌, ◌≢◌, ℕ, zero, suc, ◌+◌, ◌-◌, ◌<◌, ◌≤◌, ◌⊎◌, inl, inr, ◌==◌, ◌||◌, ◌&&◌, nat_lt, nat_le, List, [], ◌∷◌, length, Bool, true, false, refl, sym, ap, ◌∙◌, subst, arith, Option, Some, None, slice_get}
-use Rattle.std.specs.Option.{unwrap_or}
-use Rattle.std.specs.List.{AllByRecursion, Contains}
+use Rattle.std.proofs.Common.{◌≡◌, ℕ, zero, suc, ◌+◌, ◌<◌, ◌≤◌, inl, inr, ◌==◌, ◌&&◌, nat_lt, nat_le, List, [], ◌∷◌, length, Bool, true, false, refl, sym, ap, ◌∙◌, subst, arith, Option, Some, None, slice_get}
+use Rattle.std.specs.List.{Contains}
 use Rattle.std.proofs.lemmas.Bool.{or_cases, and_parts, ltb-true, leb-true, true≢false}
-use Rattle.std.proofs.lemmas.Option.{none-some, same_Some, slice_get-get_or}
+use Rattle.std.proofs.lemmas.Option.{none-some, same_Some}
 use Rattle.std.proofs.lemmas.List.{length-set}
 use Rattle.avr_isa.specs.declared.instruction.Instr.{Instr}
 use Rattle.avr_isa.specs.declared.instruction.Instr.TheVariants.{Ldi, Mov, StX}
@@ -13,11 +12,11 @@ use Rattle.domain_model.specs.declared.unit.Unit.TheVariants.{Plain, Store, Kern
 use Rattle.domain_model.specs.declared.handler.Running.{Running}
 use Rattle.domain_model.specs.declared.line.TraceLine.TheVariants as line
 use Rattle.domain_model.specs.State.{Processor, KernelState, RunnerState, with_processor}
-use Rattle.domain_model.specs.Act.{Acted, act, act_running, act_at, act_unit, act_store, act_return, act_call, plain_effect, store_effect, store_address, may_store, owns, bank, next_unit}
+use Rattle.domain_model.specs.Act.{Acted, act, act_running, act_at, act_store, act_return, act_call, plain_effect, store_effect, store_address, may_store, owns, bank, next_unit}
 use Rattle.domain_model.specs.Units.{IsBuilt, AreProper, is_return, ends_in_return, say_call}
 use Rattle.domain_model.specs.Good.{GoodMachine, GoodModule, GoodHandler, GoodRunning, GoodHand}
 use Rattle.domain_model.proofs.Kept.{each_at, each_contained, contained_nowhere, contained_cases}
-use Rattle.domain_model.proofs.ModuleLaws.{Found, found}
+use Rattle.domain_model.proofs.ModuleLaws.{found}
 use Rattle.domain_model.proofs.BlockLaws.{owned_in_heap}
 
 -- A unit changes the processor alone.

@@ -1,10 +1,10 @@
 -- The blocks of the heap under the loaded modules: who owns them, where they lie, and what a state block is.
-use Rattle.std.proofs.Common.{◌≡◌, ◌≢◌, ℕ, zero, suc, ◌+◌, ◌-◌, ◌*◌, ◌/◌, ◌<◌, ◌≤◌, ◌⊎◌, inl, inr, ◌==◌, ◌&&◌, List, [], ◌∷◌, ◌++◌, length, take, drop, replicate, filter, not, cond, Bool, true, false, refl, sym, ap, ◌∙◌, subst, arith, Option, Some, None, nat_lt}
-use Rattle.std.specs.List.{AllByRecursion, Contains}
-use Rattle.std.proofs.lemmas.Bool.{cases_Bool, cond-true, cond-false, cond_both, eqb-false, not-false, or_cases, and_parts, not-true}
+use Rattle.std.proofs.Common.{◌≡◌, ℕ, zero, suc, ◌+◌, ◌-◌, ◌*◌, ◌<◌, ◌≤◌, inl, inr, ◌==◌, ◌&&◌, List, [], ◌∷◌, length, not, Bool, true, false, refl, sym, ◌∙◌, subst, arith, Option, Some, None, nat_lt}
+use Rattle.std.specs.List.{AllByRecursion}
+use Rattle.std.proofs.lemmas.Bool.{cases_Bool, cond-true, cond-false, cond_both, eqb-false, or_cases, and_parts, not-true}
 use Rattle.std.proofs.lemmas.Option.{none-some, same_Some}
 use Rattle.std.proofs.lemmas.List.{length-append, length-take, length-drop, length-replicate}
-use Rattle.mote_layout.specs.Memory.{heap_start, ram_start, block_bytes, domain_count, kernel}
+use Rattle.mote_layout.specs.Memory.{ram_start, block_bytes, domain_count}
 use Rattle.mote_layout.specs.Blocks.{AreBlocks, AreBlocksFrom, block_address, covers, inserted, without_owner}
 use Rattle.mote_layout.specs.Fit.{least_of, fit, blocks_for}
 use Rattle.mote_layout.specs.declared.segment.Segment.{Segment}

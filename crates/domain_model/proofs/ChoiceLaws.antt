@@ -1,5 +1,5 @@
 -- What each choice of a turn says of the state holds where it is chosen.
-use Rattle.std.proofs.Common.{◌≡◌, ◌≢◌, ℕ, ◌+◌, ◌<◌, ◌≤◌, ◌==◌, nat_le, refl, sym, Bool, true, false, Option, Some, None, List, [], ◌∷◌, slice_get}
+use Rattle.std.proofs.Common.{◌≡◌, ◌≢◌, ◌==◌, nat_le, refl, Bool, true, false, Option, Some, None, List, [], ◌∷◌}
 use Rattle.std.proofs.lemmas.Bool.{leb-true, leb-false, eqb-true, eqb-false}
 use Rattle.domain_model.specs.declared.event.Event.{Event}
 use Rattle.domain_model.specs.declared.handler.Running.{Running}
@@ -7,7 +7,7 @@ use Rattle.domain_model.specs.declared.event.Turned.{Turned}
 use Rattle.domain_model.specs.declared.event.Turned.TheVariants.{More, EndIdle, EndBudget}
 use Rattle.domain_model.specs.State.{State}
 use Rattle.domain_model.specs.Turn.{choice, choose_event, choose_outside, choose_unit, choose_inside, choose_running, choose_ended}
-use Rattle.domain_model.specs.Facts.{IsDue, IsLater, IsIdle, IsSpent, IsStruck, IsActing, Facts}
+use Rattle.domain_model.specs.Facts.{Facts}
 
 module _ (s : State) (live : s.ended ≡ More) where
   event_facts : (b : Bool) (e : Event) (es : List Event) → s.kernel.running ≡ None → s.events ≡ e ∷ es → nat_le e.time s.kernel.clock ≡ b → Facts (choose_event b e) s

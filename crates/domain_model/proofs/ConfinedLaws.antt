@@ -1,5 +1,5 @@
 -- Confinement: what a unit changes is the running domain's, and a fault changes no domain's bytes.
-use Rattle.std.proofs.Common.{◌≡◌, ◌≢◌, ℕ, ◌+◌, ◌-◌, ◌<◌, ◌≤◌, ◌⊎◌, inl, inr, ◌==◌, ◌||◌, ◌&&◌, nat_lt, nat_le, List, Bool, true, false, refl, sym, ap, ◌∙◌, subst, arith, Option, Some, None, slice_index}
+use Rattle.std.proofs.Common.{◌≡◌, ◌≢◌, ℕ, ◌+◌, ◌-◌, ◌≤◌, inl, inr, ◌==◌, ◌&&◌, nat_lt, nat_le, List, Bool, true, false, refl, sym, ap, ◌∙◌, subst, arith, Option, Some, None, slice_index}
 use Rattle.std.proofs.lemmas.Bool.{cases_Bool, cases_eq, or_cases, or_parts, and_parts, ltb-true, leb-true, true≢false}
 use Rattle.std.proofs.lemmas.List.{get_or-set_other}
 use Rattle.avr_isa.specs.declared.instruction.Instr.{Instr}
@@ -7,23 +7,22 @@ use Rattle.avr_isa.specs.declared.instruction.Instr.TheVariants.{StX}
 use Rattle.mote_layout.specs.Memory.{ram_start, red_zone_start, kernel_bytes_start, kernel_bytes_end}
 use Rattle.domain_model.specs.declared.unit.Unit.{Unit}
 use Rattle.domain_model.specs.declared.unit.Unit.TheVariants.{Plain, Store, KernelCall, Return}
-use Rattle.domain_model.specs.declared.event.Choice.{Choice}
 use Rattle.domain_model.specs.declared.event.Choice.TheVariants.{Acts}
 use Rattle.domain_model.specs.declared.fault.FaultNote.{FaultNote}
 use Rattle.domain_model.specs.declared.fault.UnitEnd.{UnitEnd}
 use Rattle.domain_model.specs.declared.fault.UnitEnd.TheVariants.{On, Over, Fault}
 use Rattle.domain_model.specs.declared.handler.Running.{Running}
 use Rattle.domain_model.specs.declared.line.TraceLine.{TraceLine}
-use Rattle.domain_model.specs.State.{KernelState, RunnerState, State, register, with_byte, with_processor}
-use Rattle.domain_model.specs.Act.{Acted, act, act_running, act_at, act_store, act_return, act_call, plain_effect, store_effect, store_address, may_store, owns, next_unit}
-use Rattle.domain_model.specs.Free.{UnitStep, SameBut, unit_free, is_dead, is_kernel_byte, calls_kernel, ends_handler, enters_from, enters_kernel, dead_top}
-use Rattle.domain_model.specs.Turn.{settled, at_clock, choice, made, May, Leaves, Turn}
+use Rattle.domain_model.specs.State.{KernelState, RunnerState, State, register, with_byte}
+use Rattle.domain_model.specs.Act.{Acted, act, act_running, act_at, act_store, act_return, act_call, store_effect, store_address, may_store, owns, next_unit}
+use Rattle.domain_model.specs.Free.{UnitStep, unit_free, is_dead, is_kernel_byte, calls_kernel, ends_handler, enters_from, enters_kernel, dead_top}
+use Rattle.domain_model.specs.Turn.{settled, at_clock, made, Turn}
 use Rattle.domain_model.specs.Good.{GoodMachine, GoodRunning, Good}
 use Rattle.domain_model.specs.Laws.{MayChange, KeepsOthers, MayChangeAtFault, Confined}
 use Rattle.domain_model.specs.Units.{say_call}
-use Rattle.domain_model.specs.Facts.{Facts, IsActing}
+use Rattle.domain_model.specs.Facts.{IsActing}
 use Rattle.domain_model.proofs.ChoiceLaws.{choice_facts}
-use Rattle.domain_model.proofs.ActLaws.{act_processor_alone, running_good, store_in_memory, plain_alike, plain_memory, store_alike}
+use Rattle.domain_model.proofs.ActLaws.{running_good, store_in_memory, plain_alike, plain_memory, store_alike}
 use Rattle.domain_model.proofs.TurnLaws.{step_processor_alone}
 
 -- The machine's own unit.
@@ -211,11 +210,11 @@ turn_confined s t lines g turn = record {
       let own = own_running s.kernel.running s.kernel s.runner run g.machine facts.running facts.running out in
       subst (λ (x : State). KeepsOthers s.kernel run x.kernel) (sym to)
       (settled_keeps turn.got.ending s.kernel run turn.got.kernel turn.got.runner turn.got.lines (_) (step.ending ∙ own.1)
-       (step_keeps s.kernel s.runner turn.got run g.machine facts.running step out));
+      (step_keeps s.kernel s.runner turn.got run g.machine facts.running step out));
   at_fault = λ run note e fault i differs.
       let step : UnitStep s.kernel s.runner turn.got = rw e at turn.may in
       let to : t ≡ (made (Acts run) s turn.got).state = rw e at turn.to in
       let same : t.kernel.processor.memory ≡ turn.got.kernel.processor.memory
-          = ap (λ (x : State). x.kernel.processor.memory) to ∙ settled_memory turn.got.ending run turn.got.kernel turn.got.runner turn.got.lines in
+      = ap (λ (x : State). x.kernel.processor.memory) to ∙ settled_memory turn.got.ending run turn.got.kernel turn.got.runner turn.got.lines in
       fault_bytes s.kernel s.runner turn.got note step fault i (λ e. differs (ap (λ (bytes : List ℕ). slice_index bytes i) same ∙ e));
 }

@@ -1,6 +1,5 @@
 -- Crossing: the running domain changes only by a dispatch while none runs, and by the handler's end.
-use Rattle.std.proofs.Common.{◌≡◌, ◌≢◌, ℕ, ◌+◌, List, [], ◌∷◌, ◌++◌, length, Bool, true, false, refl, sym, ap, ◌∙◌, subst, Option, Some, None, slice_get}
-use Rattle.std.specs.List.{Contains}
+use Rattle.std.proofs.Common.{◌≡◌, ℕ, List, Bool, true, false, refl, sym, ap, subst, Option, Some, None, slice_get}
 use Rattle.std.proofs.lemmas.List.Elements.{Contains-push}
 use Rattle.domain_model.specs.declared.event.What.{What}
 use Rattle.domain_model.specs.declared.event.What.TheVariants as what
@@ -14,8 +13,7 @@ use Rattle.domain_model.specs.Image.{Module}
 use Rattle.domain_model.specs.State.{KernelState, RunnerState, State}
 use Rattle.domain_model.specs.Act.{Acted}
 use Rattle.domain_model.specs.Turn.{Given, given, free_domain, is_loaded, row_of, init_to, Moved, refused, came, load_image, load_new, load_in, load_given, made_of, settled, counted, choice, made, May, Turn}
-use Rattle.domain_model.specs.Good.{Good}
-use Rattle.domain_model.specs.Laws.{Dispatched, CrossesBy, Crosses}
+use Rattle.domain_model.specs.Laws.{CrossesBy, Crosses}
 use Rattle.domain_model.specs.Facts.{Facts}
 use Rattle.domain_model.proofs.ChoiceLaws.{choice_facts}
 use Rattle.domain_model.proofs.TurnLaws.{with_bytes, leaves, step_processor_alone}

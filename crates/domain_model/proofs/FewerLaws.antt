@@ -1,5 +1,5 @@
 -- Each turn of a live state leaves fewer to come.
-use Rattle.std.proofs.Common.{◌≡◌, ◌≢◌, ℕ, ◌+◌, ◌-◌, ◌*◌, ◌<◌, ◌≤◌, List, [], ◌∷◌, length, drop, Bool, true, false, refl, sym, ap, ◌∙◌, subst, arith, Option, Some, None, slice_get, nat_lt, is_some}
+use Rattle.std.proofs.Common.{◌≡◌, ℕ, ◌+◌, ◌<◌, ◌≤◌, List, [], ◌∷◌, length, drop, Bool, true, false, refl, ap, subst, arith, Some, slice_get, is_some}
 use Rattle.std.proofs.lemmas.Bool.{lt-ltb, le-ltb}
 use Rattle.std.proofs.lemmas.Option.{none-some, same_Some, slice_get_within}
 use Rattle.std.proofs.lemmas.List.{length-drop}
@@ -7,11 +7,10 @@ use Rattle.domain_model.specs.declared.event.Event.{Event}
 use Rattle.domain_model.specs.declared.event.Choice.{Choice}
 use Rattle.domain_model.specs.declared.event.Choice.TheVariants.{Stays, Comes, Jumps, Idles, Budgets, Watches, Acts}
 use Rattle.domain_model.specs.declared.event.Turned.TheVariants.{More}
-use Rattle.domain_model.specs.declared.handler.Running.{Running}
 use Rattle.domain_model.specs.declared.line.TraceLine.{TraceLine}
 use Rattle.domain_model.specs.State.{KernelState, State}
 use Rattle.domain_model.specs.Act.{Acted}
-use Rattle.domain_model.specs.Turn.{made, May, came, settled, choice, Turn}
+use Rattle.domain_model.specs.Turn.{made, came, settled, choice, Turn}
 use Rattle.domain_model.specs.Good.{Good}
 use Rattle.domain_model.specs.Facts.{Facts}
 use Rattle.domain_model.specs.Remaining.{one_if, is_late, goes_on, remaining}

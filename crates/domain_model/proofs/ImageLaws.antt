@@ -1,8 +1,7 @@
 -- What is read from an image's bytes are the fields that they were written from.
-use Rattle.std.proofs.Common.{◌≡◌, ◌≢◌, ◌↔◌, ℕ, zero, suc, ◌+◌, ◌-◌, ◌*◌, ◌^◌, ◌<◌, ◌≤◌, ◌==◌, ◌&&◌, nat_le, List, [], ◌∷◌, ◌++◌, length, take, drop, cond, Bool, true, false, refl, sym, ap, ◌∙◌, subst, arith, Option, Some, None, inl, inr, slice_index, slice_range, replicate}
+use Rattle.std.proofs.Common.{◌≡◌, ℕ, zero, suc, ◌+◌, ◌*◌, ◌^◌, ◌<◌, ◌≤◌, ◌==◌, ◌&&◌, nat_le, List, [], ◌∷◌, ◌++◌, length, take, drop, true, refl, sym, ap, ◌∙◌, subst, arith, Some, None, inl, inr, slice_index, slice_range, replicate}
 use Rattle.std.specs.List.{AllByRecursion, flat_map}
 use Rattle.std.specs.Str.{bytes_eq}
-use Rattle.std.proofs.Math.Seq.{drop-cons}
 use Rattle.std.proofs.lemmas.Bool.{and_parts, and_from, leb-true, le-leb, eqb-true, eq-eqb, cond-true, cond-false, cases_Bool}
 use Rattle.std.proofs.lemmas.Option.{none-some, same_Some}
 use Rattle.std.proofs.lemmas.Slice.Eq.{bytes_eq-Decides}
@@ -127,12 +126,12 @@ is_written m least greatest size =
     let bytes : List ℕ = image_bytes m in
     and_from (has_length (image_bytes m)) (fixed_front (image_bytes m) && (has_id (image_bytes m) && plain_fields (image_bytes m)))
     (and_from (nat_le 15 (length (image_bytes m))) (length (image_bytes m) == 15 + 2 * word_at (image_bytes m) 13)
-     (le-leb 15 (length (image_bytes m)) (omega arith))
-     (eq-eqb (length (image_bytes m)) (15 + 2 * word_at (image_bytes m) 13) (omega (arith, bytes_count m.code, word_of_bytes (length m.code)))))
+    (le-leb 15 (length (image_bytes m)) (omega arith))
+    (eq-eqb (length (image_bytes m)) (15 + 2 * word_at (image_bytes m) 13) (omega (arith, bytes_count m.code, word_of_bytes (length m.code)))))
     (and_from (has_id (image_bytes m)) (plain_fields (image_bytes m))
-     (and_from (nat_le 1 m.id) (nat_le m.id 254) (le-leb 1 m.id least) (le-leb m.id 254 greatest))
-     (and_from (nat_le (word_at (image_bytes m) 7) state_limit) true
-      (le-leb (word_at (image_bytes m) 7) state_limit (omega (arith, word_of_bytes m.state_size, size))) refl))
+    (and_from (nat_le 1 m.id) (nat_le m.id 254) (le-leb 1 m.id least) (le-leb m.id 254 greatest))
+    (and_from (nat_le (word_at (image_bytes m) 7) state_limit) true
+    (le-leb (word_at (image_bytes m) 7) state_limit (omega (arith, word_of_bytes m.state_size, size))) refl))
 
 fields_written : (m : Image) → IsImage (image_bytes m) m → image_of (image_bytes m) ≡ Some m
 fields_written m h =

@@ -1,5 +1,5 @@
 -- What holds of each element of a list, after a change of the list; and what a list contains.
-use Rattle.std.proofs.Common.{◌≡◌, ℕ, ◌+◌, ◌<◌, ◌⊎◌, inl, inr, ◌||◌, List, [], ◌∷◌, ◌++◌, length, filter, cond, Bool, true, false, drop, refl, sym, ◌∙◌, zero, suc, subst, arith, slice_get, Some, None}
+use Rattle.std.proofs.Common.{◌≡◌, ℕ, ◌⊎◌, inl, inr, List, [], ◌∷◌, ◌++◌, filter, cond, Bool, true, false, drop, refl, ◌∙◌, zero, suc, subst, arith, slice_get, Some}
 use Rattle.std.specs.List.{AllByRecursion, Contains, list_any}
 use Rattle.std.proofs.lemmas.Bool.{or_parts, or_left, or_right}
 use Rattle.std.proofs.lemmas.Option.{none-some, same_Some}

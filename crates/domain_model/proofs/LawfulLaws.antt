@@ -1,10 +1,6 @@
 -- Every turn from a good state is lawful, and every run from one.
-use Rattle.std.proofs.Common.{◌≡◌, List, ◌++◌}
-use Rattle.domain_model.specs.declared.line.TraceLine.{TraceLine}
-use Rattle.domain_model.specs.State.{State}
-use Rattle.domain_model.specs.Turn.{Turn, RunBy, RunFrom, over, more}
-use Rattle.domain_model.specs.Good.{Good}
-use Rattle.domain_model.specs.Laws.{LawfulTurn, LawfulRunFrom, TurnsAreLawful, RunsAreLawful}
+use Rattle.domain_model.specs.Turn.{over, more}
+use Rattle.domain_model.specs.Laws.{TurnsAreLawful, RunsAreLawful}
 use Rattle.domain_model.proofs.TurnLaws.{turn_good}
 use Rattle.domain_model.proofs.ConfinedLaws.{turn_confined}
 use Rattle.domain_model.proofs.CrossingLaws.{turn_crosses}

@@ -1,5 +1,5 @@
 -- Kernel and runner stay good: each change of the two on its own.
-use Rattle.std.proofs.Common.{◌≡◌, ◌≢◌, ℕ, ◌+◌, ◌-◌, ◌<◌, ◌≤◌, ◌==◌, not, List, [], ◌∷◌, ◌++◌, length, drop, Bool, true, false, refl, sym, ap, ◌∙◌, subst, arith, Option, Some, None, slice_get}
+use Rattle.std.proofs.Common.{◌≡◌, ◌≢◌, ℕ, ◌+◌, ◌<◌, ◌==◌, not, List, [], ◌∷◌, ◌++◌, length, drop, Bool, true, false, refl, sym, ap, ◌∙◌, subst, arith, Option, Some, None, slice_get}
 use Rattle.std.specs.List.{AllByRecursion}
 use Rattle.std.specs.Option.{unwrap_or}
 use Rattle.std.proofs.lemmas.Bool.{eqb-false, or_parts}
@@ -21,10 +21,10 @@ use Rattle.domain_model.specs.declared.line.TraceLine.{TraceLine}
 use Rattle.domain_model.specs.Image.{Module}
 use Rattle.domain_model.specs.Units.{AreProper, say_call}
 use Rattle.domain_model.specs.State.{Processor, KernelState, RunnerState, with_processor, with_pair, frame_of, dispatched}
-use Rattle.domain_model.specs.Act.{Acted, act, act_running, act_at, act_unit, act_store, act_return, act_call, plain_effect, store_effect, store_address, may_store, bank, next_unit}
+use Rattle.domain_model.specs.Act.{Acted, act, act_running, act_at, act_store, act_return, act_call, plain_effect, store_effect, store_address, may_store, bank, next_unit}
 use Rattle.domain_model.specs.Free.{SameKernel, with_memory, unit_free, UnitStep}
 use Rattle.domain_model.specs.Turn.{in_use, is_loaded, free_domain, Given, given, row_of, init_to, Moved, loaded, load_given, load_in, load_new, load_image, came, settled, purged, handler_ended, at_clock, placed, emptied, entered}
-use Rattle.domain_model.specs.Good.{GoodProcessor, GoodModule, GoodMachine, GoodHandler, GoodRunning, GoodHand, GoodImage, IsGoodImage}
+use Rattle.domain_model.specs.Good.{GoodProcessor, GoodModule, GoodMachine, GoodHandler, GoodRunning, GoodImage, IsGoodImage}
 use Rattle.domain_model.proofs.Kept.{each_weaker, each_filter, each_push, each_at}
 use Rattle.domain_model.proofs.ModuleLaws.{in_use_old, in_use_new, is_loaded_new, other_domain, all_apart, distinct_push, distinct_filter}
 use Rattle.domain_model.proofs.BlockLaws.{GoodGiven, given_good, free_domain_is_free, owned_more, owned_without}
@@ -112,8 +112,8 @@ purged_good k r domain h = record {
   processor = h.processor;
   banks = length-set r.banks domain [] ∙ h.banks;
   modules =
-    each_filter (GoodModule r) (GoodModule (emptied r domain)) (λ (m : ModuleRow). not (m.domain == domain))
-    (λ m kept g. module_kept r (emptied r domain) m (bank_other r domain m.domain [] (other_domain m.domain domain kept)) g) k.modules h.modules;
+      each_filter (GoodModule r) (GoodModule (emptied r domain)) (λ (m : ModuleRow). not (m.domain == domain))
+      (λ m kept g. module_kept r (emptied r domain) m (bank_other r domain m.domain [] (other_domain m.domain domain kept)) g) k.modules h.modules;
   distinct = distinct_filter (λ (m : ModuleRow). not (m.domain == domain)) k.modules h.distinct;
   blocks = AreBlocks-without_owner domain k.blocks h.blocks;
   owners = owned_without k.modules domain k.blocks h.owners;
@@ -157,14 +157,14 @@ loaded_good k r m domain g h image below unused unloaded block =
       processor = dispatched_good (record k.processor { memory = g.memory }) g.address (init_to m.id) (block.memory ∙ h.processor.memory);
       banks = length-set r.banks domain m.units ∙ h.banks;
       modules =
-        each_push (GoodModule (entered (placed r domain m.units) m.handler)) k.modules (row_of m domain g)
-        (others_kept r domain m.units m.handler k.modules unused h.modules) (new_module r m domain g h.banks image below);
+          each_push (GoodModule (entered (placed r domain m.units) m.handler)) k.modules (row_of m domain g)
+          (others_kept r domain m.units m.handler k.modules unused h.modules) (new_module r m domain g h.banks image below);
       distinct = distinct_push k.modules (row_of m domain g) h.distinct (all_apart k.modules (row_of m domain g) unloaded unused);
       blocks = block.blocks;
       owners =
-        block.owners (k.modules ++ row_of m domain g ∷ [])
-        (owned_more k.modules (k.modules ++ row_of m domain g ∷ []) (in_use_old k.modules (row_of m domain g)) k.blocks h.owners)
-        (in_use_new k.modules (row_of m domain g));
+          block.owners (k.modules ++ row_of m domain g ∷ [])
+          (owned_more k.modules (k.modules ++ row_of m domain g ∷ []) (in_use_old k.modules (row_of m domain g)) k.blocks h.owners)
+          (in_use_new k.modules (row_of m domain g));
       handler = (
         record {
           loaded = in_use_new k.modules (row_of m domain g);

@@ -1,14 +1,14 @@
 -- The list of loaded modules: which domains and ids it has, and that no two modules share one.
-use Rattle.std.proofs.Common.{◌≡◌, ◌≢◌, ℕ, ◌+◌, ◌<◌, ◌⊎◌, inl, inr, ◌==◌, List, [], ◌∷◌, ◌++◌, filter, not, Bool, true, false, refl, sym, ap, ◌∙◌, subst, arith, Option, Some, None}
-use Rattle.std.specs.List.{AllByRecursion, Contains, list_any}
+use Rattle.std.proofs.Common.{◌≡◌, ◌≢◌, ℕ, ◌⊎◌, inl, inr, ◌==◌, List, [], ◌∷◌, ◌++◌, filter, not, Bool, true, false, refl, sym, ap, ◌∙◌, Option, Some}
+use Rattle.std.specs.List.{AllByRecursion, Contains}
 use Rattle.std.specs.Option.{option_map_or}
-use Rattle.std.proofs.lemmas.Bool.{cases_Bool, cond-true, cond-false, cond_both, eqb-true, eqb-false, eq-eqb, ne_eqb, or_cases, or_parts, not-true, not_from_false}
+use Rattle.std.proofs.lemmas.Bool.{cases_Bool, cond-true, cond-false, cond_both, eqb-true, eqb-false, eq-eqb, ne_eqb, or_parts, not-true, not_from_false}
 use Rattle.std.proofs.lemmas.Map.Views.{any-filter_same}
 use Rattle.domain_model.specs.declared.module.ModuleRow.{ModuleRow}
 use Rattle.domain_model.specs.Act.{module_at, id_at}
 use Rattle.domain_model.specs.Turn.{in_use, is_loaded, without_domain}
 use Rattle.domain_model.specs.Good.{IsApart, AreDistinct}
-use Rattle.domain_model.proofs.Kept.{each_filter, each_push, each_contained, contained_nowhere, contained_first, contained_later, contained_cases, contained_filter, any_old, any_new, any_nowhere}
+use Rattle.domain_model.proofs.Kept.{each_filter, each_push, each_contained, contained_nowhere, contained_first, contained_later, contained_cases, contained_filter, any_old, any_new}
 
 -- the module behind a domain in use
 pub record Found (modules : List ModuleRow) (domain : ℕ) : Type 0 where
@@ -22,11 +22,11 @@ found [] domain e = absurd (cc)
 found (m ∷ ms) domain e =
     elim (cases_Bool (m.domain == domain)) [
       | inl here ↦ record {
-          row = m;
-          at = cond-true (m.domain == domain) (Some m) (module_at ms domain) here;
-          contained = contained_first ms m;
-          domain_of = eqb-true m.domain domain here;
-        }
+        row = m;
+        at = cond-true (m.domain == domain) (Some m) (module_at ms domain) here;
+        contained = contained_first ms m;
+        domain_of = eqb-true m.domain domain here;
+      }
       | inr other ↦ later other (found ms domain (rw other at e))
     ]
   where

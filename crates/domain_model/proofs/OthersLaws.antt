@@ -1,10 +1,9 @@
 -- Where a module is unloaded, the other modules are as they were, with their blocks and the bytes in them.
-use Rattle.std.proofs.Common.{◌≡◌, ◌≢◌, ℕ, ◌+◌, ◌<◌, ◌≤◌, ◌⊎◌, inl, inr, ◌&&◌, nat_le, List, [], ◌∷◌, Bool, true, false, refl, sym, ap, ◌∙◌, subst, arith, Option, Some, None, slice_index}
+use Rattle.std.proofs.Common.{◌≡◌, ℕ, ◌+◌, ◌<◌, ◌≤◌, inl, inr, nat_le, List, [], ◌∷◌, false, refl, sym, ap, ◌∙◌, subst, arith, Some, slice_index}
 use Rattle.std.specs.List.{Contains}
 use Rattle.std.proofs.lemmas.Bool.{and_right, lt-leb, cases_eq}
 use Rattle.mote_layout.specs.Memory.{ram_start, kernel_bytes_start, kernel_bytes_end}
 use Rattle.mote_layout.specs.Blocks.{without_owner}
-use Rattle.mote_layout.specs.declared.segment.Segment.{Segment}
 use Rattle.domain_model.specs.declared.module.ModuleRow.{ModuleRow}
 use Rattle.domain_model.specs.declared.event.Choice.{Choice}
 use Rattle.domain_model.specs.declared.event.Choice.TheVariants.{Stays, Comes, Jumps, Idles, Budgets, Watches, Acts}
@@ -15,7 +14,7 @@ use Rattle.domain_model.specs.declared.handler.Running.{Running}
 use Rattle.domain_model.specs.declared.line.TraceLine.{TraceLine}
 use Rattle.domain_model.specs.declared.line.TraceLine.TheVariants as line
 use Rattle.domain_model.specs.State.{KernelState, RunnerState, State}
-use Rattle.domain_model.specs.Act.{Acted, act, id_at, owns}
+use Rattle.domain_model.specs.Act.{Acted, id_at}
 use Rattle.domain_model.specs.Free.{UnitStep, is_kernel_byte}
 use Rattle.domain_model.specs.Turn.{settled, at_clock, without_domain, choice, made, May, Leaves, Turn}
 use Rattle.domain_model.specs.Good.{GoodMachine, Good}
@@ -26,7 +25,7 @@ use Rattle.domain_model.proofs.BlockLaws.{owned_in_heap}
 use Rattle.domain_model.proofs.ActLaws.{running_good}
 use Rattle.domain_model.proofs.TurnLaws.{step_processor_alone}
 use Rattle.domain_model.proofs.ConfinedLaws.{fault_bytes}
-use Rattle.domain_model.proofs.UnloadLaws.{IsQuiet, quiet_by, came_quiet, step_quiet, done_quiet, its_domain, unloaded_id}
+use Rattle.domain_model.proofs.UnloadLaws.{quiet_by, came_quiet, step_quiet, done_quiet, its_domain, unloaded_id}
 
 -- a byte of a block is no byte of the kernel's, and no fault changes it
 heap_byte : (address : ℕ) → (0x0200 ≤ address) × (address < 0x0E00) → is_kernel_byte address ≡ false
@@ -48,7 +47,7 @@ fault_keeps k r got run note now h step e =
             | inl same ↦ same
             | inr differs ↦
                 absurd (no_fault_byte k (i + ram_start) (owned_in_heap k.blocks other (i + ram_start) h.blocks owned)
-                 (fault_bytes k r got note step (sym step.ending ∙ e) i differs))
+                (fault_bytes k r got note step (sym step.ending ∙ e) i differs))
           ];
     }
 

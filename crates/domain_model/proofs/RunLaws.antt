@@ -1,11 +1,11 @@
 -- Every run from a good state ends.
-use Rattle.std.proofs.Common.{◌≡◌, ◌≢◌, ℕ, zero, suc, ◌+◌, ◌<◌, ◌≤◌, ◌⊎◌, inl, inr, List, [], ◌∷◌, ◌++◌, append_assoc, refl, sym, subst, arith}
+use Rattle.std.proofs.Common.{◌≡◌, ◌≢◌, ℕ, zero, suc, ◌+◌, ◌<◌, ◌⊎◌, inl, inr, List, [], ◌++◌, append_assoc, refl, sym, subst, arith}
 use Rattle.domain_model.specs.declared.event.Turned.{Turned}
 use Rattle.domain_model.specs.declared.event.Turned.TheVariants.{More, EndIdle, EndBudget}
 use Rattle.domain_model.specs.declared.line.TraceLine.{TraceLine}
 use Rattle.domain_model.specs.State.{State}
 use Rattle.domain_model.specs.Act.{act}
-use Rattle.domain_model.specs.Turn.{choice, made, Made, Turn, RunBy, RunFrom, over, more}
+use Rattle.domain_model.specs.Turn.{choice, made, Made, Turn, RunFrom, over, more}
 use Rattle.domain_model.specs.Good.{Good}
 use Rattle.domain_model.specs.Laws.{RunsEnd}
 use Rattle.domain_model.specs.Remaining.{remaining}

@@ -1,5 +1,5 @@
 -- A run begins in a good state.
-use Rattle.std.proofs.Common.{◌≡◌, ℕ, ◌+◌, ◌<◌, ◌≤◌, List, [], ◌∷◌, length, map, refl, sym, subst, arith, Option}
+use Rattle.std.proofs.Common.{ℕ, ◌≤◌, List, map, refl, arith, Option}
 use Rattle.std.specs.List.{AllByRecursion}
 use Rattle.mote_layout.specs.Limits.{unit_limit, handler_limit}
 use Rattle.domain_model.specs.declared.event.Event.{Event}

@@ -1,6 +1,5 @@
 -- Every turn keeps a state good, and from each good state that is live there is a turn.
-use Rattle.std.proofs.Common.{◌≡◌, ◌≢◌, ℕ, ◌+◌, ◌-◌, ◌^◌, ◌<◌, ◌≤◌, List, [], ◌∷◌, length, drop, Bool, true, false, refl, sym, ap, ◌∙◌, subst, arith, Option, Some, None, slice_get}
-use Rattle.std.specs.List.{AllByRecursion}
+use Rattle.std.proofs.Common.{◌≡◌, ℕ, ◌^◌, ◌<◌, List, length, Bool, true, false, refl, sym, ap, ◌∙◌, subst, arith, Option, Some, None, slice_get}
 use Rattle.domain_model.specs.declared.event.Event.{Event}
 use Rattle.domain_model.specs.declared.event.What.{What}
 use Rattle.domain_model.specs.declared.event.What.TheVariants as what
@@ -15,7 +14,7 @@ use Rattle.domain_model.specs.State.{KernelState, RunnerState, State, with_proce
 use Rattle.domain_model.specs.Act.{Acted, act}
 use Rattle.domain_model.specs.Free.{SameBut, SameKernel, SameState, UnitStep, with_memory, is_kernel_byte, unit_free}
 use Rattle.domain_model.specs.Turn.{Given, given, free_domain, is_loaded, came, load_image, load_new, load_in, load_given, settled, choice, made, May, Leaves, Turn}
-use Rattle.domain_model.specs.Good.{GoodMachine, Good}
+use Rattle.domain_model.specs.Good.{Good}
 use Rattle.domain_model.specs.Facts.{Facts}
 use Rattle.domain_model.proofs.Kept.{each_drop, each_at}
 use Rattle.domain_model.proofs.ChoiceLaws.{choice_facts}
@@ -53,7 +52,7 @@ settled_clock (Fault note) run k r lines = refl
 pub step_processor_alone : (k : KernelState) (r : RunnerState) (got : Acted) → UnitStep k r got → got.kernel ≡ with_processor k got.kernel.processor
 step_processor_alone k r got step =
     let e : with_memory (act k r).kernel got.kernel.processor.memory ≡ with_processor k (with_memory (act k r).kernel got.kernel.processor.memory).processor
-        = ap (λ (n : KernelState). with_memory n got.kernel.processor.memory) (act_processor_alone k r) in
+    = ap (λ (n : KernelState). with_memory n got.kernel.processor.memory) (act_processor_alone k r) in
     subst (λ (n : KernelState). n ≡ with_processor k n.processor) (sym step.kernel.rest) e
 
 -- What a turn makes of a good state, but for the free bytes.
@@ -114,11 +113,11 @@ made_good (Watches run) s got g facts may = record {
 }
 made_good (Acts run) s got g facts may =
     let clock : (settled got.ending run got.kernel got.runner got.lines).kernel.clock ≡ s.kernel.clock
-        = settled_clock got.ending run got.kernel got.runner got.lines ∙ ap (λ (k : KernelState). k.clock) (step_processor_alone s.kernel s.runner got may) in
+    = settled_clock got.ending run got.kernel got.runner got.lines ∙ ap (λ (k : KernelState). k.clock) (step_processor_alone s.kernel s.runner got may) in
     record {
       machine =
-        clock_good (settled got.ending run got.kernel got.runner got.lines).kernel (settled got.ending run got.kernel got.runner got.lines).runner _
-        (settled_good got.ending run got.kernel got.runner got.lines (step_good s.kernel s.runner got may g.machine));
+          clock_good (settled got.ending run got.kernel got.runner got.lines).kernel (settled got.ending run got.kernel got.runner got.lines).runner _
+          (settled_good got.ending run got.kernel got.runner got.lines (step_good s.kernel s.runner got may g.machine));
       images = g.images;
       times = g.times;
       clock = omega (arith, clock, g.clock);

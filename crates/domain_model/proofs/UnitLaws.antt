@@ -1,5 +1,5 @@
 -- Units that are decoded are proper, and a module that is prepared can be loaded.
-use Rattle.std.proofs.Common.{◌≡◌, ℕ, zero, suc, ◌+◌, ◌-◌, ◌*◌, ◌^◌, ◌<◌, ◌≤◌, ◌==◌, ◌&&◌, nat_le, List, [], ◌∷◌, length, map, sum_by, cond, Bool, true, false, refl, sym, ap, ◌∙◌, subst, arith, Option, Some, None, Result, Ok, Err, IfSome}
+use Rattle.std.proofs.Common.{◌≡◌, ℕ, zero, suc, ◌-◌, ◌^◌, ◌<◌, ◌≤◌, ◌==◌, ◌&&◌, nat_le, List, [], ◌∷◌, length, map, sum_by, cond, Bool, true, false, refl, subst, arith, Option, Some, None, Result, Ok, Err, IfSome}
 use Rattle.std.specs.List.{AllByRecursion}
 use Rattle.std.proofs.lemmas.Bool.{and_parts, leb-true}
 use Rattle.std.proofs.lemmas.Option.{none-some, same_Some, some_pair_parts, cond_some}
@@ -9,14 +9,12 @@ use Rattle.avr_isa.specs.declared.instruction.Instr.TheVariants.{Ldi, Mov, StX, 
 use Rattle.avr_isa.specs.declared.instruction.DecodeError.{DecodeError}
 use Rattle.avr_isa.specs.Operands.{IsEncodable}
 use Rattle.avr_isa.specs.Decoded.{decoded}
-use Rattle.avr_isa.specs.Laws.{AreWords}
 use Rattle.avr_isa.proofs.TableLaws.{decoded_is_encodable}
 use Rattle.mote_layout.specs.Memory.{bank_words}
-use Rattle.mote_base.specs.Words.{words_of}
 use Rattle.domain_model.specs.declared.unit.Unit.{Unit}
 use Rattle.domain_model.specs.declared.unit.Unit.TheVariants.{Plain, Store, KernelCall, Return}
-use Rattle.domain_model.specs.Units.{say_entry, say_call, call_unit, unit_of, counted_unit, unit_read, next_word, unit_at, with_unit, followed, spelled, long_length, ends_in_return, accepted, accepted_units, units_of, IsBuilt, AreProper}
-use Rattle.domain_model.specs.Image.{Image, Module, image_of, module_with, module_in, prepared, IsImage}
+use Rattle.domain_model.specs.Units.{say_entry, say_call, unit_of, counted_unit, unit_read, next_word, unit_at, with_unit, followed, spelled, long_length, ends_in_return, accepted_units, units_of, IsBuilt, AreProper}
+use Rattle.domain_model.specs.Image.{Image, Module, image_of, module_with, module_in, prepared}
 use Rattle.domain_model.specs.Good.{GoodImage, IsGoodImage}
 use Rattle.domain_model.proofs.ImageLaws.{image_read}
 
@@ -53,7 +51,6 @@ unit_at_built w ws u m below h e =
     read_built (decoded w (next_word ws)) u m (λ i n d. decoded_is_encodable w (next_word ws) i n (below, next_is_word ws h) d) e
 
 -- The units of words are all built.
-
 
 with_built : (u : Unit) (o : Option (List Unit)) (us : List Unit) → IsBuilt u → ((vs : List Unit) → o ≡ Some vs → AllByRecursion IsBuilt vs) → with_unit u o ≡ Some us → AllByRecursion IsBuilt us
 with_built u None us h f e = absurd (none-some us e)

@@ -1,5 +1,5 @@
 -- Clean unload: where a turn unloads a module, nothing names it or its domain any more.
-use Rattle.std.proofs.Common.{◌≡◌, ◌≢◌, ℕ, ◌+◌, ◌<◌, ◌≤◌, ◌⊎◌, inl, inr, ◌==◌, not, List, [], ◌∷◌, ◌++◌, Bool, true, false, refl, sym, ap, ◌∙◌, subst, arith, Option, Some, None, slice_get}
+use Rattle.std.proofs.Common.{◌≡◌, ℕ, ◌<◌, inl, inr, ◌==◌, not, List, [], ◌∷◌, ◌++◌, Bool, true, false, refl, sym, ap, ◌∙◌, subst, arith, Option, Some, None, slice_get}
 use Rattle.std.specs.List.{Contains, list_any}
 use Rattle.std.proofs.lemmas.Bool.{true≢false}
 use Rattle.std.proofs.lemmas.List.Elements.{Contains-append_cases}
@@ -14,23 +14,22 @@ use Rattle.domain_model.specs.declared.fault.FaultNote.{FaultNote}
 use Rattle.domain_model.specs.declared.fault.UnitEnd.{UnitEnd}
 use Rattle.domain_model.specs.declared.fault.UnitEnd.TheVariants.{On, Over, Fault}
 use Rattle.domain_model.specs.declared.handler.Running.{Running}
-use Rattle.domain_model.specs.declared.handler.Message.{Message}
 use Rattle.domain_model.specs.declared.line.TraceLine.{TraceLine}
 use Rattle.domain_model.specs.declared.line.TraceLine.TheVariants as line
 use Rattle.domain_model.specs.Image.{Module}
 use Rattle.domain_model.specs.State.{KernelState, RunnerState, State}
-use Rattle.domain_model.specs.Act.{Acted, act, id_at}
+use Rattle.domain_model.specs.Act.{Acted, id_at}
 use Rattle.domain_model.specs.Free.{UnitStep, with_memory}
-use Rattle.domain_model.specs.Turn.{in_use, Given, given, free_domain, is_loaded, Moved, came, load_image, load_new, load_in, load_given, settled, faulted, watchdog, purged, handler_ended, at_clock, choice, made, May, Turn}
+use Rattle.domain_model.specs.Turn.{in_use, Given, given, free_domain, is_loaded, came, load_image, load_new, load_in, load_given, settled, faulted, watchdog, purged, handler_ended, choice, made, May, Turn}
 use Rattle.domain_model.specs.Good.{GoodMachine, GoodModule, Good}
 use Rattle.domain_model.specs.Laws.{Names, a_module, the_message, a_block, a_lost_payload, the_running, UnloadsCleanly}
 use Rattle.domain_model.specs.Facts.{Facts}
 use Rattle.domain_model.proofs.Kept.{each_contained, any_nowhere, contained_nowhere, contained_cases, contained_filter}
 use Rattle.domain_model.proofs.ChoiceLaws.{choice_facts}
-use Rattle.domain_model.proofs.ModuleLaws.{Found, found, found_id, contained_without, other_domain, same_module}
+use Rattle.domain_model.proofs.ModuleLaws.{found, found_id, contained_without, other_domain, same_module}
 use Rattle.domain_model.proofs.ActLaws.{running_good, act_unloads_nothing}
 use Rattle.domain_model.proofs.MachineLaws.{step_good}
-use Rattle.domain_model.proofs.TurnLaws.{with_bytes, leaves, step_processor_alone}
+use Rattle.domain_model.proofs.TurnLaws.{leaves, step_processor_alone}
 
 -- What a purge leaves names nothing of the module.
 
@@ -70,7 +69,6 @@ names_alike k n id domain modules hand blocks running (the_message m e same) = t
 names_alike k n id domain modules hand blocks running (a_block b c e) = a_block b (subst (λ (bs : List Segment). Contains bs b) blocks c) e
 names_alike k n id domain modules hand blocks running (a_lost_payload b c e) = a_lost_payload b (subst (λ (bs : List Segment). Contains bs b) blocks c) e
 names_alike k n id domain modules hand blocks running (the_running run e same) = the_running run (sym running ∙ e) same
-
 
 -- Lines that unload no module.
 abbrev pub IsQuiet : List TraceLine → Type 0
@@ -164,8 +162,8 @@ made_clean (Acts run) s got g facts may time m c cm =
     let running : got.kernel.running ≡ Some run = ap (λ (k : KernelState). k.running) rest ∙ facts.running in
     let there : Contains got.kernel.modules m = subst (λ (k : KernelState). Contains k.modules m) (sym rest) cm in
     λ names.
-        settled_clean got.ending run got.kernel got.runner got.lines (step_good s.kernel s.runner got may g.machine) running (step_quiet s.kernel s.runner got may) time m c there
-        (names_alike (settled got.ending run got.kernel got.runner got.lines).kernel _ m.id m.domain refl refl refl refl names)
+    settled_clean got.ending run got.kernel got.runner got.lines (step_good s.kernel s.runner got may g.machine) running (step_quiet s.kernel s.runner got may) time m c there
+    (names_alike (settled got.ending run got.kernel got.runner got.lines).kernel _ m.id m.domain refl refl refl refl names)
 
 pub turn_unloads : (s t : State) (lines : List TraceLine) → Good s → Turn s t lines → UnloadsCleanly s t lines
 turn_unloads s t lines g turn time m c cm =

@@ -7,12 +7,11 @@ use Rattle.domain_model.specs.declared.module.ModuleRow.{ModuleRow}
 use Rattle.domain_model.specs.declared.handler.Running.{Running}
 use Rattle.domain_model.specs.declared.handler.Message.{Message}
 use Rattle.domain_model.specs.declared.event.Choice.TheVariants.{Acts}
-use Rattle.domain_model.specs.declared.event.Event.{Event}
 use Rattle.domain_model.specs.declared.fault.FaultNote.{FaultNote}
-use Rattle.domain_model.specs.declared.fault.UnitEnd.TheVariants.{On, Fault}
+use Rattle.domain_model.specs.declared.fault.UnitEnd.TheVariants.{Fault}
 use Rattle.domain_model.specs.declared.line.TraceLine.{TraceLine}
 use Rattle.domain_model.specs.declared.line.TraceLine.TheVariants as line
-use Rattle.domain_model.specs.State.{KernelState, RunnerState, State, Input}
+use Rattle.domain_model.specs.State.{KernelState, State}
 use Rattle.domain_model.specs.Act.{act, owns}
 use Rattle.domain_model.specs.Free.{enters_kernel}
 use Rattle.domain_model.specs.Turn.{choice, without_domain, Turn, RunBy, RunFrom}
