@@ -177,7 +177,8 @@ same_kernel free k = record { rest = refl; memory = same_bytes free k.processor.
 pub step_itself : (k : KernelState) (r : RunnerState) → UnitStep k r (act k r)
 step_itself k r = record { kernel = same_kernel (unit_free k r) (act k r).kernel; runner = refl; lines = refl; ending = refl }
 
-may_itself : (c : Choice) (s : State) → May c s (act s.kernel s.runner)
+-- each choice may have that unit, and leaves what is made of the state
+pub may_itself : (c : Choice) (s : State) → May c s (act s.kernel s.runner)
 may_itself Stays s = tt
 may_itself (Comes e) s = tt
 may_itself (Jumps now) s = tt
