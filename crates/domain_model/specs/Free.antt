@@ -1,6 +1,6 @@
 -- The bytes whose values a run leaves open, as an interrupt on the same stack and a kernel's own bytes would:
 -- at every unit the dead bytes of the stack, at every entry of the kernel the kernel's own bytes.
-use Rattle.std.specs.Prelude.{◌≡◌, ℕ, ◌+◌, ◌&&◌, ◌||◌, nat_le, List, [], ◌∷◌, length, slice_index, Bool, true, false, Option, Some, None}
+use Rattle.std.specs.Prelude.{◌≡◌, ℕ, ◌+◌, ◌&&◌, ◌||◌, nat_le, List, length, slice_index, Bool, true, false, Option, Some, None}
 use Rattle.mote_layout.specs.Memory.{ram_start, red_zone_start, kernel_bytes_start, kernel_bytes_end}
 use Rattle.domain_model.specs.declared.unit.Unit.{Unit}
 use Rattle.domain_model.specs.declared.unit.Unit.TheVariants.{Plain, Store, KernelCall, Return}

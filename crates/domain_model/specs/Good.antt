@@ -1,11 +1,10 @@
 -- What every turn keeps.
-use Rattle.std.specs.Prelude.{◌≡◌, ◌≢◌, ℕ, ◌+◌, ◌^◌, ◌<◌, ◌≤◌, List, [], ◌∷◌, length, Option, Some, None, IsSome, true, false, ⊤}
+use Rattle.std.specs.Prelude.{◌≡◌, ◌≢◌, ◌+◌, ◌^◌, ◌<◌, ◌≤◌, List, [], ◌∷◌, length, Option, Some, None, true, ⊤}
 use Rattle.std.specs.List.{AllByRecursion}
 use Rattle.mote_layout.specs.Memory.{ram_bytes, domain_count, stack_top, floor}
 use Rattle.mote_layout.specs.Limits.{unit_limit, handler_limit}
 use Rattle.mote_layout.specs.Blocks.{AreBlocks}
 use Rattle.mote_layout.specs.declared.segment.Segment.{Segment}
-use Rattle.domain_model.specs.declared.unit.Unit.{Unit}
 use Rattle.domain_model.specs.declared.module.ModuleRow.{ModuleRow}
 use Rattle.domain_model.specs.declared.handler.Running.{Running}
 use Rattle.domain_model.specs.declared.handler.Message.{Message}
@@ -13,7 +12,7 @@ use Rattle.domain_model.specs.declared.event.Event.{Event}
 use Rattle.domain_model.specs.Image.{Module}
 use Rattle.domain_model.specs.Units.{AreProper}
 use Rattle.domain_model.specs.State.{Processor, KernelState, RunnerState, State}
-use Rattle.domain_model.specs.Act.{bank, next_unit}
+use Rattle.domain_model.specs.Act.{bank}
 use Rattle.domain_model.specs.Turn.{is_loaded, in_use}
 
 -- The processor has 32 registers and 4096 bytes of memory.

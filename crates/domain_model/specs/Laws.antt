@@ -1,20 +1,20 @@
 -- What holds of every turn of every run.
 use Rattle.std.specs.Prelude.{◌≡◌, ◌≢◌, ◌⊎◌, ℕ, ◌+◌, ◌≤◌, List, Option, Some, None, Contains, true, false, slice_index, ⊤}
 use Rattle.mote_layout.specs.Memory.{ram_start, red_zone_start, kernel_bytes_start, kernel_bytes_end, kernel}
+use Rattle.mote_layout.specs.Blocks.{without_owner}
 use Rattle.mote_layout.specs.declared.segment.Segment.{Segment}
 use Rattle.domain_model.specs.declared.module.ModuleRow.{ModuleRow}
 use Rattle.domain_model.specs.declared.handler.Running.{Running}
 use Rattle.domain_model.specs.declared.handler.Message.{Message}
 use Rattle.domain_model.specs.declared.event.Choice.TheVariants.{Acts}
-use Rattle.domain_model.specs.declared.event.Event.{Event}
 use Rattle.domain_model.specs.declared.fault.FaultNote.{FaultNote}
-use Rattle.domain_model.specs.declared.fault.UnitEnd.TheVariants.{On, Fault}
+use Rattle.domain_model.specs.declared.fault.UnitEnd.TheVariants.{Fault}
 use Rattle.domain_model.specs.declared.line.TraceLine.{TraceLine}
 use Rattle.domain_model.specs.declared.line.TraceLine.TheVariants as line
-use Rattle.domain_model.specs.State.{KernelState, RunnerState, State, Input}
+use Rattle.domain_model.specs.State.{KernelState, State}
 use Rattle.domain_model.specs.Act.{act, owns}
 use Rattle.domain_model.specs.Free.{enters_kernel}
-use Rattle.domain_model.specs.Turn.{choice, Turn, RunBy, RunFrom}
+use Rattle.domain_model.specs.Turn.{choice, without_domain, Turn, RunBy, RunFrom}
 use Rattle.domain_model.specs.Good.{Good}
 
 -- Confinement.
@@ -79,6 +79,17 @@ abbrev pub UnloadsCleanly : State → State → List TraceLine → Type 0
 UnloadsCleanly s t lines =
     (time : ℕ) (m : ModuleRow) → Contains lines (line.Unload time m.id) → Contains s.kernel.modules m → ¬ Names t.kernel m.id m.domain
 
+-- The other modules stay in their order, and so do their blocks with the bytes in them.
+pub record KeepsTheRest (k : KernelState) (domain : ℕ) (new : KernelState) : Type 0 where
+  pub modules : new.modules ≡ without_domain domain k.modules
+  pub blocks : new.blocks ≡ without_owner domain k.blocks
+  pub bytes : (other i : ℕ) → other ≢ domain → owns k.blocks other (i + ram_start) ≡ true → slice_index new.processor.memory i ≡ slice_index k.processor.memory i
+
+-- Where a turn says that a module is unloaded, the others are as they were.
+abbrev pub UnloadsAlone : State → State → List TraceLine → Type 0
+UnloadsAlone s t lines =
+    (time : ℕ) (m : ModuleRow) → Contains lines (line.Unload time m.id) → Contains s.kernel.modules m → KeepsTheRest s.kernel m.domain t.kernel
+
 -- A turn, with all that holds of it.
 pub record LawfulTurn (s t : State) (lines : List TraceLine) : Type 0 where
   pub turn : Turn s t lines
@@ -86,6 +97,7 @@ pub record LawfulTurn (s t : State) (lines : List TraceLine) : Type 0 where
   pub confined : Confined s t
   pub crosses : Crosses s t
   pub unloads : UnloadsCleanly s t lines
+  pub unloads_alone : UnloadsAlone s t lines
 
 abbrev pub LawfulRunFrom : State → List TraceLine → Type 0
 LawfulRunFrom s lines = RunBy LawfulTurn s lines

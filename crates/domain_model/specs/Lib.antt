@@ -11,3 +11,4 @@ pub mod Good
 pub mod Laws
 pub mod Text
 pub mod Remaining
+pub mod Facts

@@ -1,7 +1,7 @@
 -- Turns and runs.
-use Rattle.std.specs.Prelude.{◌≡◌, ◌≢◌, ℕ, ◌+◌, ◌-◌, ◌*◌, ◌==◌, ◌||◌, nat_le, not, List, [], ◌∷◌, ◌++◌, drop, filter, Bool, true, false, Option, Some, None, slice_get, slice_set, is_some, ⊤}
+use Rattle.std.specs.Prelude.{◌≡◌, ◌≢◌, ℕ, ◌+◌, ◌-◌, ◌*◌, ◌==◌, ◌||◌, nat_le, not, List, [], ◌∷◌, ◌++◌, drop, filter, Bool, true, false, Option, Some, None, slice_get, slice_set, ⊤}
 use Rattle.std.specs.List.{list_any}
-use Rattle.mote_layout.specs.Memory.{ram_start, heap_start, heap_end, block_bytes, domain_count, stack_top, kernel_bytes_start, kernel_bytes_end}
+use Rattle.mote_layout.specs.Memory.{ram_start, heap_end, block_bytes, domain_count, stack_top}
 use Rattle.mote_layout.specs.Blocks.{block_address, inserted, without_owner}
 use Rattle.mote_layout.specs.Fit.{fit, blocks_for, least_of}
 use Rattle.mote_layout.specs.declared.segment.Segment.{Segment}

@@ -3,8 +3,8 @@ ghost use Rattle.domain_model.specs.Image.{ImagesAreTheirFields};
 ghost use Rattle.domain_model.specs.Laws.{TurnsAreLawful, RunsAreLawful, RunsEnd};
 
 /// Law: every turn from a good state keeps it good, is confined to what is the running domain's, changes the
-/// running domain only by a dispatch or the handler's end, and unloads cleanly; and so does every turn of a
-/// run from a good state.
+/// running domain only by a dispatch or the handler's end, unloads cleanly and leaves the other modules as
+/// they were; and so does every turn of a run from a good state.
 pub fn every_turn_is_lawful()
     ensures turns { TurnsAreLawful }
     ensures runs { RunsAreLawful }

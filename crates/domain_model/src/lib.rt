@@ -9,7 +9,8 @@
 //!   words of the command line mean.
 //! - `Act`: what one unit does. `Free`: the bytes whose values a run leaves open.
 //! - `Turn`: which turn comes next, what it does, and the runs of turns. `Text`: the bytes of a trace.
-//! - `Good`: what every turn keeps. `Laws`: what holds of each turn of each run.
+//! - `Good`: what every turn keeps. `Facts`: what each choice of a turn says of the state. `Remaining`: how many
+//!   turns may still come. `Laws`: what holds of each turn of each run.
 //!
 //! The types here are plain data that definitions and code share. The laws of the machine are the contracts
 //! of the functions of `laws`.
@@ -23,6 +24,8 @@ mod line;
 mod lines;
 mod module;
 mod request;
+#[cfg(test)]
+mod tests;
 mod unit;
 
 pub use event::{Choice, Event, Turned, What};

@@ -1,7 +1,7 @@
 //! Loaded modules.
 
 /// A module that is loaded.
-#[derive(Clone, Copy, Debug, PartialEq, Eq)]
+#[derive(Clone, Copy, Debug, Default, PartialEq, Eq)]
 pub struct ModuleRow {
     /// 1 to 254.
     pub id: u8,

@@ -1,0 +1,104 @@
+-- Crossing: the running domain changes only by a dispatch while none runs, and by the handler's end.
+use Rattle.std.proofs.Common.{◌≡◌, ℕ, List, Bool, true, false, refl, sym, ap, subst, Option, Some, None, slice_get}
+use Rattle.std.proofs.lemmas.List.Elements.{Contains-push}
+use Rattle.domain_model.specs.declared.event.What.{What}
+use Rattle.domain_model.specs.declared.event.What.TheVariants as what
+use Rattle.domain_model.specs.declared.event.Choice.{Choice}
+use Rattle.domain_model.specs.declared.event.Choice.TheVariants.{Stays, Comes, Jumps, Idles, Budgets, Watches, Acts}
+use Rattle.domain_model.specs.declared.fault.UnitEnd.{UnitEnd}
+use Rattle.domain_model.specs.declared.fault.UnitEnd.TheVariants.{On, Over, Fault}
+use Rattle.domain_model.specs.declared.handler.Running.{Running}
+use Rattle.domain_model.specs.declared.line.TraceLine.{TraceLine}
+use Rattle.domain_model.specs.Image.{Module}
+use Rattle.domain_model.specs.State.{KernelState, RunnerState, State}
+use Rattle.domain_model.specs.Act.{Acted}
+use Rattle.domain_model.specs.Turn.{Given, given, free_domain, is_loaded, row_of, init_to, Moved, refused, came, load_image, load_new, load_in, load_given, made_of, settled, counted, choice, made, May, Turn}
+use Rattle.domain_model.specs.Laws.{CrossesBy, Crosses}
+use Rattle.domain_model.specs.Facts.{Facts}
+use Rattle.domain_model.proofs.ChoiceLaws.{choice_facts}
+use Rattle.domain_model.proofs.TurnLaws.{with_bytes, leaves, step_processor_alone}
+
+-- the same domain runs on, or none
+stays : (o : Option Running) (t : State) → CrossesBy o o t
+stays None t = tt
+stays (Some run) t = refl
+
+-- no domain runs any more
+ends : (o : Option Running) (t : State) → t.kernel.hand ≡ None → CrossesBy o None t
+ends None t h = tt
+ends (Some run) t h = h
+
+-- What a load makes of kernel and runner starts a handler or none.
+abbrev Starts : State → Moved → Type 0
+Starts s m = CrossesBy None m.kernel.running (made_of s m).state
+
+not_started : (s : State) (m : Moved) → m.kernel.running ≡ None → Starts s m
+not_started s m out = subst (λ (o : Option Running). CrossesBy None o (made_of s m).state) (sym out) tt
+
+given_starts : (o : Option Given) (s : State) (m : Module) (domain image : ℕ) (k : KernelState) (r : RunnerState) → k.running ≡ None → Starts s (load_given o m domain image k r)
+given_starts None s m domain image k r out = not_started s (refused 6 image k r) out
+given_starts (Some g) s m domain image k r out = record {
+  row = row_of m domain g;
+  message = init_to m.id;
+  is_loaded = Contains-push k.modules (row_of m domain g);
+  domain = refl;
+  unit = refl;
+  in_hand = refl;
+  receiver = refl;
+}
+
+in_starts : (o : Option ℕ) (s : State) (m : Module) (image : ℕ) (k : KernelState) (r : RunnerState) → k.running ≡ None → Starts s (load_in o m image k r)
+in_starts None s m image k r out = not_started s (refused 5 image k r) out
+in_starts (Some domain) s m image k r out = given_starts (given k domain m.state_size) s m domain image k r out
+
+new_starts : (b : Bool) (s : State) (m : Module) (image : ℕ) (k : KernelState) (r : RunnerState) → k.running ≡ None → Starts s (load_new b m image k r)
+new_starts true s m image k r out = not_started s (refused 4 image k r) out
+new_starts false s m image k r out = in_starts (free_domain k.modules) s m image k r out
+
+image_starts : (o : Option (Option Module)) (s : State) (image : ℕ) (k : KernelState) (r : RunnerState) → k.running ≡ None → Starts s (load_image o image k r)
+image_starts None s image k r out = not_started s (load_image None image k r) out
+image_starts (Some None) s image k r out = not_started s (load_image (Some None) image k r) out
+image_starts (Some (Some m)) s image k r out = new_starts (is_loaded k.modules m.id) s m image k r out
+
+came_starts : (s : State) (images : List (Option Module)) (w : What) (k : KernelState) (r : RunnerState) → k.running ≡ None → Starts s (came images w k r)
+came_starts s images (what.Load n) k r out = image_starts (slice_get images n) s n k r out
+
+-- after a unit
+settled_crosses : (e : UnitEnd) (s : State) (o : Option Running) (run : Running) (k : KernelState) (r : RunnerState) (lines : List TraceLine) → k.running ≡ o → CrossesBy o (settled e run k r lines).kernel.running (counted s (settled e run k r lines)).state
+settled_crosses On s o run k r lines h =
+    subst (λ (x : Option Running). CrossesBy o x (counted s (settled On run k r lines)).state) (sym h) (stays o (counted s (settled On run k r lines)).state)
+settled_crosses Over s o run k r lines h = ends o (counted s (settled Over run k r lines)).state refl
+settled_crosses (Fault note) s o run k r lines h = ends o (counted s (settled (Fault note) run k r lines)).state refl
+
+made_crosses : (c : Choice) (s : State) (got : Acted) → Facts c s → May c s got → Crosses s (made c s got).state
+made_crosses Stays s got facts may = stays s.kernel.running s
+made_crosses (Comes e) s got facts may =
+    subst (λ (o : Option Running). CrossesBy o (came s.images e.what s.kernel s.runner).kernel.running (made (Comes e) s got).state) (sym facts.outside)
+    (came_starts (record s { events = (made (Comes e) s got).state.events; spent = 0 }) s.images e.what s.kernel s.runner facts.outside)
+made_crosses (Jumps now) s got facts may = stays s.kernel.running (made (Jumps now) s got).state
+made_crosses Idles s got facts may = stays s.kernel.running (made Idles s got).state
+made_crosses Budgets s got facts may = stays s.kernel.running (made Budgets s got).state
+made_crosses (Watches run) s got facts may = ends s.kernel.running (made (Watches run) s got).state refl
+made_crosses (Acts run) s got facts may =
+    settled_crosses got.ending s s.kernel.running run got.kernel got.runner got.lines
+    (ap (λ (k : KernelState). k.running) (step_processor_alone s.kernel s.runner got may))
+
+-- other bytes change nothing of it
+crosses_bytes : (o n : Option Running) (t : State) (memory : List ℕ) → CrossesBy o n t → CrossesBy o n (with_bytes t memory)
+crosses_bytes None None t memory h = tt
+crosses_bytes None (Some run) t memory h = record {
+  row = h.row;
+  message = h.message;
+  is_loaded = h.is_loaded;
+  domain = h.domain;
+  unit = h.unit;
+  in_hand = h.in_hand;
+  receiver = h.receiver;
+}
+crosses_bytes (Some old) None t memory h = h
+crosses_bytes (Some old) (Some new) t memory h = h
+
+pub turn_crosses : (s t : State) (lines : List TraceLine) → Turn s t lines → Crosses s t
+turn_crosses s t lines turn =
+    leaves (Crosses s) (λ x memory same h. crosses_bytes s.kernel.running x.kernel.running x memory h) (choice s) (made (choice s) s turn.got).state t turn.to
+    (made_crosses (choice s) s turn.got (choice_facts s) turn.may)

@@ -1,0 +1,17 @@
+pub mod Kept
+pub mod ChoiceLaws
+pub mod ModuleLaws
+pub mod BlockLaws
+pub mod ActLaws
+pub mod MachineLaws
+pub mod TurnLaws
+pub mod FewerLaws
+pub mod StartLaws
+pub mod RunLaws
+pub mod ConfinedLaws
+pub mod CrossingLaws
+pub mod UnloadLaws
+pub mod OthersLaws
+pub mod LawfulLaws
+pub mod ImageLaws
+pub mod UnitLaws

@@ -1,0 +1,116 @@
+-- The list of loaded modules: which domains and ids it has, and that no two modules share one.
+use Rattle.std.proofs.Common.{◌≡◌, ◌≢◌, ℕ, ◌⊎◌, inl, inr, ◌==◌, List, [], ◌∷◌, ◌++◌, filter, not, Bool, true, false, refl, sym, ap, ◌∙◌, Option, Some}
+use Rattle.std.specs.List.{AllByRecursion, Contains}
+use Rattle.std.specs.Option.{option_map_or}
+use Rattle.std.proofs.lemmas.Bool.{cases_Bool, cond-true, cond-false, cond_both, eqb-true, eqb-false, eq-eqb, ne_eqb, or_parts, not-true, not_from_false}
+use Rattle.std.proofs.lemmas.Map.Views.{any-filter_same}
+use Rattle.domain_model.specs.declared.module.ModuleRow.{ModuleRow}
+use Rattle.domain_model.specs.Act.{module_at, id_at}
+use Rattle.domain_model.specs.Turn.{in_use, is_loaded, without_domain}
+use Rattle.domain_model.specs.Good.{IsApart, AreDistinct}
+use Rattle.domain_model.proofs.Kept.{each_filter, each_push, each_contained, contained_nowhere, contained_first, contained_later, contained_cases, contained_filter, any_old, any_new}
+
+-- the module behind a domain in use
+pub record Found (modules : List ModuleRow) (domain : ℕ) : Type 0 where
+  pub row : ModuleRow
+  pub at : module_at modules domain ≡ Some row
+  pub contained : Contains modules row
+  pub domain_of : row.domain ≡ domain
+
+pub found : (modules : List ModuleRow) (domain : ℕ) → in_use modules domain ≡ true → Found modules domain
+found [] domain e = absurd (cc)
+found (m ∷ ms) domain e =
+    elim (cases_Bool (m.domain == domain)) [
+      | inl here ↦ record {
+        row = m;
+        at = cond-true (m.domain == domain) (Some m) (module_at ms domain) here;
+        contained = contained_first ms m;
+        domain_of = eqb-true m.domain domain here;
+      }
+      | inr other ↦ later other (found ms domain (rw other at e))
+    ]
+  where
+    later : (m.domain == domain) ≡ false → Found ms domain → Found (m ∷ ms) domain
+    later other f = record {
+      row = f.row;
+      at = cond-false (m.domain == domain) (Some m) (module_at ms domain) other ∙ f.at;
+      contained = contained_later m ms f.row f.contained;
+      domain_of = f.domain_of;
+    }
+
+-- its id is the domain's
+pub found_id : (modules : List ModuleRow) (domain : ℕ) (f : Found modules domain) → id_at modules domain ≡ f.row.id
+found_id modules domain f = ap (λ (o : Option ModuleRow). option_map_or (λ (m : ModuleRow). m.id) o 0) f.at
+
+-- domains and ids that are there stay where a module comes in, and its own are there
+pub in_use_old : (modules : List ModuleRow) (row : ModuleRow) (domain : ℕ) → in_use modules domain ≡ true → in_use (modules ++ row ∷ []) domain ≡ true
+in_use_old modules row domain h = any_old (λ (m : ModuleRow). m.domain == domain) modules row h
+
+pub in_use_new : (modules : List ModuleRow) (row : ModuleRow) → in_use (modules ++ row ∷ []) row.domain ≡ true
+in_use_new modules row = any_new (λ (m : ModuleRow). m.domain == row.domain) modules row (eq-eqb row.domain row.domain refl)
+
+pub is_loaded_new : (modules : List ModuleRow) (row : ModuleRow) → is_loaded (modules ++ row ∷ []) row.id ≡ true
+is_loaded_new modules row = any_new (λ (m : ModuleRow). m.id == row.id) modules row (eq-eqb row.id row.id refl)
+
+-- another domain stays in use where one is given up
+pub in_use_without : (modules : List ModuleRow) (gone domain : ℕ) → domain ≢ gone → in_use modules domain ≡ true → in_use (without_domain gone modules) domain ≡ true
+in_use_without modules gone domain ne h =
+    any-filter_same (λ (m : ModuleRow). m.domain == domain) (λ (m : ModuleRow). not (m.domain == gone)) true
+    (λ m here. not_from_false (m.domain == gone) (ne_eqb m.domain gone (λ e. ne (sym (eqb-true m.domain domain here) ∙ e)))) modules
+    ∙ h
+
+-- what is left has another domain
+pub other_domain : (domain gone : ℕ) → not (domain == gone) ≡ true → domain ≢ gone
+other_domain domain gone h = eqb-false domain gone (not-true (domain == gone) h)
+
+pub contained_without : (modules : List ModuleRow) (gone : ℕ) (m : ModuleRow) → Contains (without_domain gone modules) m → Contains modules m × (m.domain ≢ gone)
+contained_without modules gone m c =
+    let kept = contained_filter (λ (n : ModuleRow). not (n.domain == gone)) modules m c in
+    (kept.0, other_domain m.domain gone kept.1)
+
+-- a module with a new id and a new domain is apart from each
+pub all_apart : (modules : List ModuleRow) (row : ModuleRow) → is_loaded modules row.id ≡ false → in_use modules row.domain ≡ false → AllByRecursion (λ m. IsApart m row) modules
+all_apart [] row id domain = tt
+all_apart (m ∷ ms) row id domain =
+    let ids = or_parts (m.id == row.id) (is_loaded ms row.id) id in
+    let domains = or_parts (m.domain == row.domain) (in_use ms row.domain) domain in
+    ((λ e. eqb-false m.id row.id ids.0 (sym e), λ e. eqb-false m.domain row.domain domains.0 (sym e)), all_apart ms row ids.1 domains.1)
+
+pub distinct_push : (modules : List ModuleRow) (row : ModuleRow) → AreDistinct modules → AllByRecursion (λ m. IsApart m row) modules → AreDistinct (modules ++ row ∷ [])
+distinct_push [] row d a = (tt, tt)
+distinct_push (m ∷ ms) row d a = (each_push (IsApart m) ms row d.0 a.0, distinct_push ms row d.1 a.1)
+
+pub distinct_filter : (test : ModuleRow → Bool) (modules : List ModuleRow) → AreDistinct modules → AreDistinct (filter test modules)
+distinct_filter test [] d = tt
+distinct_filter test (m ∷ ms) d =
+    cond_both (test m) (m ∷ filter test ms) (filter test ms) AreDistinct
+    (λ kept. (each_filter (IsApart m) (IsApart m) test (λ n e h. h) ms d.0, distinct_filter test ms d.1))
+    (λ lost. distinct_filter test ms d.1)
+
+-- two modules that share an id or a domain are one
+abbrev Share : ModuleRow → ModuleRow → Type 0
+Share a b = (a.id ≡ b.id) ⊎ (a.domain ≡ b.domain)
+
+share_not : (m a b : ModuleRow) → m ≡ a → IsApart m b → Share a b → ⊥
+share_not m a b e apart (inl same) = apart.0 (sym same ∙ ap (λ (x : ModuleRow). x.id) (sym e))
+share_not m a b e apart (inr same) = apart.1 (sym same ∙ ap (λ (x : ModuleRow). x.domain) (sym e))
+
+swapped : (a b : ModuleRow) → Share a b → Share b a
+swapped a b (inl e) = inl (sym e)
+swapped a b (inr e) = inr (sym e)
+
+pub same_module : (modules : List ModuleRow) (a b : ModuleRow) → AreDistinct modules → Contains modules a → Contains modules b → Share a b → a ≡ b
+same_module [] a b d ca cb share = absurd (contained_nowhere a ca)
+same_module (m ∷ ms) a b d ca cb share =
+    elim (contained_cases m ms a ca) [
+      | inl ea ↦
+          elim (contained_cases m ms b cb) [
+            | inl eb ↦ sym ea ∙ eb
+            | inr inb ↦ absurd (share_not m a b ea (each_contained (IsApart m) ms b d.0 inb) share)
+          ]
+      | inr ina ↦
+          elim (contained_cases m ms b cb) [
+            | inl eb ↦ absurd (share_not m b a eb (each_contained (IsApart m) ms a d.0 ina) (swapped a b share))
+            | inr inb ↦ same_module ms a b d.1 ina inb share
+          ]
+    ]

@@ -1,0 +1,222 @@
+-- Every turn keeps a state good, and from each good state that is live there is a turn.
+use Rattle.std.proofs.Common.{◌≡◌, ℕ, ◌^◌, ◌<◌, List, length, Bool, true, false, refl, sym, ap, ◌∙◌, subst, arith, Option, Some, None, slice_get}
+use Rattle.domain_model.specs.declared.event.Event.{Event}
+use Rattle.domain_model.specs.declared.event.What.{What}
+use Rattle.domain_model.specs.declared.event.What.TheVariants as what
+use Rattle.domain_model.specs.declared.event.Choice.{Choice}
+use Rattle.domain_model.specs.declared.event.Choice.TheVariants.{Stays, Comes, Jumps, Idles, Budgets, Watches, Acts}
+use Rattle.domain_model.specs.declared.fault.UnitEnd.{UnitEnd}
+use Rattle.domain_model.specs.declared.fault.UnitEnd.TheVariants.{On, Over, Fault}
+use Rattle.domain_model.specs.declared.handler.Running.{Running}
+use Rattle.domain_model.specs.declared.line.TraceLine.{TraceLine}
+use Rattle.domain_model.specs.Image.{Module}
+use Rattle.domain_model.specs.State.{KernelState, RunnerState, State, with_processor}
+use Rattle.domain_model.specs.Act.{Acted, act}
+use Rattle.domain_model.specs.Free.{SameBut, SameKernel, SameState, UnitStep, with_memory, is_kernel_byte, unit_free}
+use Rattle.domain_model.specs.Turn.{Given, given, free_domain, is_loaded, came, load_image, load_new, load_in, load_given, settled, choice, made, May, Leaves, Turn}
+use Rattle.domain_model.specs.Good.{Good}
+use Rattle.domain_model.specs.Facts.{Facts}
+use Rattle.domain_model.proofs.Kept.{each_drop, each_at}
+use Rattle.domain_model.proofs.ChoiceLaws.{choice_facts}
+use Rattle.domain_model.proofs.ActLaws.{act_processor_alone}
+use Rattle.domain_model.proofs.MachineLaws.{clock_good, memory_good, purged_good, came_good, step_good, settled_good}
+
+-- The clock.
+
+given_clock : (o : Option Given) (m : Module) (domain image : ℕ) (k : KernelState) (r : RunnerState) → (load_given o m domain image k r).kernel.clock ≡ k.clock
+given_clock None m domain image k r = refl
+given_clock (Some g) m domain image k r = refl
+
+in_clock : (o : Option ℕ) (m : Module) (image : ℕ) (k : KernelState) (r : RunnerState) → (load_in o m image k r).kernel.clock ≡ k.clock
+in_clock None m image k r = refl
+in_clock (Some domain) m image k r = given_clock (given k domain m.state_size) m domain image k r
+
+new_clock : (b : Bool) (m : Module) (image : ℕ) (k : KernelState) (r : RunnerState) → (load_new b m image k r).kernel.clock ≡ k.clock
+new_clock true m image k r = refl
+new_clock false m image k r = in_clock (free_domain k.modules) m image k r
+
+image_clock : (o : Option (Option Module)) (image : ℕ) (k : KernelState) (r : RunnerState) → (load_image o image k r).kernel.clock ≡ k.clock
+image_clock None image k r = refl
+image_clock (Some None) image k r = refl
+image_clock (Some (Some m)) image k r = new_clock (is_loaded k.modules m.id) m image k r
+
+pub came_clock : (images : List (Option Module)) (w : What) (k : KernelState) (r : RunnerState) → (came images w k r).kernel.clock ≡ k.clock
+came_clock images (what.Load n) k r = image_clock (slice_get images n) n k r
+
+pub settled_clock : (e : UnitEnd) (run : Running) (k : KernelState) (r : RunnerState) (lines : List TraceLine) → (settled e run k r lines).kernel.clock ≡ k.clock
+settled_clock On run k r lines = refl
+settled_clock Over run k r lines = refl
+settled_clock (Fault note) run k r lines = refl
+
+-- a unit's step changes the processor alone
+pub step_processor_alone : (k : KernelState) (r : RunnerState) (got : Acted) → UnitStep k r got → got.kernel ≡ with_processor k got.kernel.processor
+step_processor_alone k r got step =
+    let e : with_memory (act k r).kernel got.kernel.processor.memory ≡ with_processor k (with_memory (act k r).kernel got.kernel.processor.memory).processor
+    = ap (λ (n : KernelState). with_memory n got.kernel.processor.memory) (act_processor_alone k r) in
+    subst (λ (n : KernelState). n ≡ with_processor k n.processor) (sym step.kernel.rest) e
+
+-- What a turn makes of a good state, but for the free bytes.
+
+pub made_good : (c : Choice) (s : State) (got : Acted) → Good s → Facts c s → May c s got → Good (made c s got).state
+made_good Stays s got g facts may = g
+made_good (Comes e) s got g facts may = record {
+  machine = came_good s.images e.what s.kernel s.runner g.machine g.images;
+  images = g.images;
+  times = each_drop (λ (x : Event). x.time < 2 ^ 32) s.events g.times;
+  clock = rw (came_clock s.images e.what s.kernel s.runner) g.clock;
+  total = g.total;
+  units = g.units;
+  spent = omega arith;
+  handler = g.handler;
+}
+made_good (Jumps now) s got g facts may =
+    let time : facts.event.time < 2 ^ 32 = each_at (λ (x : Event). x.time < 2 ^ 32) s.events 0 facts.event g.times facts.first in
+    record {
+      machine = clock_good s.kernel s.runner now g.machine;
+      images = g.images;
+      times = g.times;
+      clock = omega (arith, time, facts.time_of);
+      total = g.total;
+      units = g.units;
+      spent = g.spent;
+      handler = g.handler;
+    }
+made_good Idles s got g facts may = record {
+  machine = g.machine;
+  images = g.images;
+  times = g.times;
+  clock = g.clock;
+  total = g.total;
+  units = g.units;
+  spent = g.spent;
+  handler = g.handler;
+}
+made_good Budgets s got g facts may = record {
+  machine = g.machine;
+  images = g.images;
+  times = g.times;
+  clock = g.clock;
+  total = g.total;
+  units = g.units;
+  spent = g.spent;
+  handler = g.handler;
+}
+made_good (Watches run) s got g facts may = record {
+  machine = purged_good s.kernel s.runner run.domain g.machine;
+  images = g.images;
+  times = g.times;
+  clock = g.clock;
+  total = g.total;
+  units = g.units;
+  spent = g.spent;
+  handler = g.handler;
+}
+made_good (Acts run) s got g facts may =
+    let clock : (settled got.ending run got.kernel got.runner got.lines).kernel.clock ≡ s.kernel.clock
+    = settled_clock got.ending run got.kernel got.runner got.lines ∙ ap (λ (k : KernelState). k.clock) (step_processor_alone s.kernel s.runner got may) in
+    record {
+      machine =
+          clock_good (settled got.ending run got.kernel got.runner got.lines).kernel (settled got.ending run got.kernel got.runner got.lines).runner _
+          (settled_good got.ending run got.kernel got.runner got.lines (step_good s.kernel s.runner got may g.machine));
+      images = g.images;
+      times = g.times;
+      clock = omega (arith, clock, g.clock);
+      total = omega (arith, facts.total, g.total);
+      units = g.units;
+      spent = omega (arith, facts.spent, g.spent);
+      handler = g.handler;
+    }
+
+-- A state with other free bytes.
+
+-- the state with another memory
+abbrev pub with_bytes : State → List ℕ → State
+with_bytes s memory = record s { kernel = with_memory s.kernel memory }
+
+pub same_state : (free : ℕ → Bool) (want t : State) → SameState free want t → t ≡ with_bytes want t.kernel.processor.memory
+same_state free want t same = same.rest ∙ ap (λ (k : KernelState). record want { kernel = k }) same.kernel.rest
+
+pub bytes_good : (s : State) (memory : List ℕ) → length memory ≡ length s.kernel.processor.memory → Good s → Good (with_bytes s memory)
+bytes_good s memory same g = record {
+  machine = memory_good s.kernel s.runner memory same g.machine;
+  images = g.images;
+  times = g.times;
+  clock = g.clock;
+  total = g.total;
+  units = g.units;
+  spent = g.spent;
+  handler = g.handler;
+}
+
+pub same_state_good : (free : ℕ → Bool) (want t : State) → SameState free want t → Good want → Good t
+same_state_good free want t same g =
+    subst Good (sym (same_state free want t same)) (bytes_good want t.kernel.processor.memory same.kernel.memory.same_length g)
+
+-- What holds of a state and of each that differs in its bytes holds after each turn.
+pub leaves : (P : State → Type 0) → ((s : State) (memory : List ℕ) → length memory ≡ length s.kernel.processor.memory → P s → P (with_bytes s memory)) → (c : Choice) (want t : State) → Leaves c want t → P want → P t
+leaves P f Stays want t to p = subst P (sym to) p
+leaves P f (Comes e) want t to p = subst P (sym (same_state is_kernel_byte want t to)) (f want t.kernel.processor.memory to.kernel.memory.same_length p)
+leaves P f (Jumps now) want t to p = subst P (sym (same_state is_kernel_byte want t to)) (f want t.kernel.processor.memory to.kernel.memory.same_length p)
+leaves P f Idles want t to p = subst P (sym (same_state is_kernel_byte want t to)) (f want t.kernel.processor.memory to.kernel.memory.same_length p)
+leaves P f Budgets want t to p = subst P (sym (same_state is_kernel_byte want t to)) (f want t.kernel.processor.memory to.kernel.memory.same_length p)
+leaves P f (Watches run) want t to p = subst P (sym (same_state is_kernel_byte want t to)) (f want t.kernel.processor.memory to.kernel.memory.same_length p)
+leaves P f (Acts run) want t to p = subst P (sym to) p
+
+pub turn_good : (s t : State) (lines : List TraceLine) → Good s → Turn s t lines → Good t
+turn_good s t lines g turn =
+    leaves Good bytes_good (choice s) (made (choice s) s turn.got).state t turn.to (made_good (choice s) s turn.got g (choice_facts s) turn.may)
+
+-- The turn that leaves no free byte changed.
+
+same_bytes : (free : ℕ → Bool) (memory : List ℕ) → SameBut free memory memory
+same_bytes free memory = record { same_length = refl; same = λ i h. refl }
+
+same_kernel : (free : ℕ → Bool) (k : KernelState) → SameKernel free k k
+same_kernel free k = record { rest = refl; memory = same_bytes free k.processor.memory }
+
+pub step_itself : (k : KernelState) (r : RunnerState) → UnitStep k r (act k r)
+step_itself k r = record { kernel = same_kernel (unit_free k r) (act k r).kernel; runner = refl; lines = refl; ending = refl }
+
+-- each choice may have that unit, and leaves what is made of the state
+pub may_itself : (c : Choice) (s : State) → May c s (act s.kernel s.runner)
+may_itself Stays s = tt
+may_itself (Comes e) s = tt
+may_itself (Jumps now) s = tt
+may_itself Idles s = tt
+may_itself Budgets s = tt
+may_itself (Watches run) s = tt
+may_itself (Acts run) s = step_itself s.kernel s.runner
+
+same_state_itself : (s : State) → SameState is_kernel_byte s s
+same_state_itself s = record { kernel = same_kernel is_kernel_byte s.kernel; rest = refl }
+
+pub leaves_itself : (c : Choice) (s : State) → Leaves c s s
+leaves_itself Stays s = refl
+leaves_itself (Comes e) s = same_state_itself s
+leaves_itself (Jumps now) s = same_state_itself s
+leaves_itself Idles s = same_state_itself s
+leaves_itself Budgets s = same_state_itself s
+leaves_itself (Watches run) s = same_state_itself s
+leaves_itself (Acts run) s = refl
+
+-- what is made of the state, with the unit as it is defined, is a turn
+pub turn_made : (s : State) → Turn s (made (choice s) s (act s.kernel s.runner)).state (made (choice s) s (act s.kernel s.runner)).lines
+turn_made s = record {
+  got = act s.kernel s.runner;
+  may = may_itself (choice s) s;
+  to = leaves_itself (choice s) (made (choice s) s (act s.kernel s.runner)).state;
+  tells = refl;
+}
+
+-- and good
+pub good_made : (c : Choice) (s : State) → Good s → Facts c s → Good (made c s (act s.kernel s.runner)).state
+good_made c s g facts = made_good c s (act s.kernel s.runner) g facts (may_itself c s)
+
+-- the same by a choice that is known to be the next, for a unit of any runner and a state that may follow
+pub turn_by : (c : Choice) (s t : State) (got : Acted) (lines : List TraceLine) → choice s ≡ c → May c s got → Leaves c (made c s got).state t → lines ≡ (made c s got).lines → Turn s t lines
+turn_by c s t got lines e may to tells = record {
+  got = got;
+  may = subst (λ (x : Choice). May x s got) (sym e) may;
+  to = subst (λ (x : Choice). Leaves x (made x s got).state t) (sym e) to;
+  tells = subst (λ (x : Choice). lines ≡ (made x s got).lines) (sym e) tells;
+}

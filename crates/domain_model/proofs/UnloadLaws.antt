@@ -1,0 +1,173 @@
+-- Clean unload: where a turn unloads a module, nothing names it or its domain any more.
+use Rattle.std.proofs.Common.{◌≡◌, ℕ, ◌<◌, inl, inr, ◌==◌, not, List, [], ◌∷◌, ◌++◌, Bool, true, false, refl, sym, ap, ◌∙◌, subst, arith, Option, Some, None, slice_get}
+use Rattle.std.specs.List.{Contains, list_any}
+use Rattle.std.proofs.lemmas.Bool.{true≢false}
+use Rattle.std.proofs.lemmas.List.Elements.{Contains-append_cases}
+use Rattle.mote_layout.specs.Memory.{kernel}
+use Rattle.mote_layout.specs.declared.segment.Segment.{Segment}
+use Rattle.domain_model.specs.declared.module.ModuleRow.{ModuleRow}
+use Rattle.domain_model.specs.declared.event.What.{What}
+use Rattle.domain_model.specs.declared.event.What.TheVariants as what
+use Rattle.domain_model.specs.declared.event.Choice.{Choice}
+use Rattle.domain_model.specs.declared.event.Choice.TheVariants.{Stays, Comes, Jumps, Idles, Budgets, Watches, Acts}
+use Rattle.domain_model.specs.declared.fault.FaultNote.{FaultNote}
+use Rattle.domain_model.specs.declared.fault.UnitEnd.{UnitEnd}
+use Rattle.domain_model.specs.declared.fault.UnitEnd.TheVariants.{On, Over, Fault}
+use Rattle.domain_model.specs.declared.handler.Running.{Running}
+use Rattle.domain_model.specs.declared.line.TraceLine.{TraceLine}
+use Rattle.domain_model.specs.declared.line.TraceLine.TheVariants as line
+use Rattle.domain_model.specs.Image.{Module}
+use Rattle.domain_model.specs.State.{KernelState, RunnerState, State}
+use Rattle.domain_model.specs.Act.{Acted, id_at}
+use Rattle.domain_model.specs.Free.{UnitStep, with_memory}
+use Rattle.domain_model.specs.Turn.{in_use, Given, given, free_domain, is_loaded, came, load_image, load_new, load_in, load_given, settled, faulted, watchdog, purged, handler_ended, choice, made, May, Turn}
+use Rattle.domain_model.specs.Good.{GoodMachine, GoodModule, Good}
+use Rattle.domain_model.specs.Laws.{Names, a_module, the_message, a_block, a_lost_payload, the_running, UnloadsCleanly}
+use Rattle.domain_model.specs.Facts.{Facts}
+use Rattle.domain_model.proofs.Kept.{each_contained, any_nowhere, contained_nowhere, contained_cases, contained_filter}
+use Rattle.domain_model.proofs.ChoiceLaws.{choice_facts}
+use Rattle.domain_model.proofs.ModuleLaws.{found, found_id, contained_without, other_domain, same_module}
+use Rattle.domain_model.proofs.ActLaws.{running_good, act_unloads_nothing}
+use Rattle.domain_model.proofs.MachineLaws.{step_good}
+use Rattle.domain_model.proofs.TurnLaws.{leaves, step_processor_alone}
+
+-- What a purge leaves names nothing of the module.
+
+-- the module of that id in a loaded domain is the domain's
+pub its_domain : (k : KernelState) (r : RunnerState) (domain : ℕ) (m : ModuleRow) → GoodMachine k r → in_use k.modules domain ≡ true → Contains k.modules m → id_at k.modules domain ≡ m.id → m.domain ≡ domain
+its_domain k r domain m h used c e =
+    let f = found k.modules domain used in
+    let same = same_module k.modules m f.row h.distinct c f.contained (inl (sym e ∙ found_id k.modules domain f)) in
+    ap (λ (x : ModuleRow). x.domain) same ∙ f.domain_of
+
+-- a loaded domain is no kernel
+used_below : (k : KernelState) (r : RunnerState) (domain : ℕ) → GoodMachine k r → in_use k.modules domain ≡ true → domain < kernel
+used_below k r domain h used =
+    let f = found k.modules domain used in
+    let g = each_contained (GoodModule r) k.modules f.row h.modules f.contained in
+    omega (arith, g.domain, f.domain_of)
+
+purged_names : (k : KernelState) (r : RunnerState) (m : ModuleRow) → GoodMachine k r → Contains k.modules m → ¬ Names (purged (handler_ended k) m.domain) m.id m.domain
+purged_names k r m h c (a_module n cn share) =
+    let kept = contained_without k.modules m.domain n cn in
+    kept.1 (ap (λ (x : ModuleRow). x.domain) (same_module k.modules n m h.distinct kept.0 c share))
+purged_names k r m h c (the_message n hand same) = absurd (cc)
+purged_names k r m h c (a_block b cb owner) =
+    let kept = contained_filter (λ (s : Segment). not (s.owner == m.domain)) k.blocks b cb in
+    other_domain b.owner m.domain kept.1 owner
+purged_names k r m h c (a_lost_payload b cb owner) =
+    let kept = contained_filter (λ (s : Segment). not (s.owner == m.domain)) k.blocks b cb in
+    let used = each_contained (λ (s : Segment). in_use k.modules s.owner ≡ true) k.blocks b h.owners kept.0 in
+    let below = used_below k r b.owner h used in
+    omega (arith, below, owner)
+purged_names k r m h c (the_running run running same) = absurd (cc)
+
+-- what names something names it also in a kernel with the same lists
+names_alike : (k n : KernelState) (id domain : ℕ) → n.modules ≡ k.modules → n.hand ≡ k.hand → n.blocks ≡ k.blocks → n.running ≡ k.running → Names n id domain → Names k id domain
+names_alike k n id domain modules hand blocks running (a_module m c e) = a_module m (subst (λ (ms : List ModuleRow). Contains ms m) modules c) e
+names_alike k n id domain modules hand blocks running (the_message m e same) = the_message m (sym hand ∙ e) same
+names_alike k n id domain modules hand blocks running (a_block b c e) = a_block b (subst (λ (bs : List Segment). Contains bs b) blocks c) e
+names_alike k n id domain modules hand blocks running (a_lost_payload b c e) = a_lost_payload b (subst (λ (bs : List Segment). Contains bs b) blocks c) e
+names_alike k n id domain modules hand blocks running (the_running run e same) = the_running run (sym running ∙ e) same
+
+-- Lines that unload no module.
+abbrev pub IsQuiet : List TraceLine → Type 0
+IsQuiet lines = (time id : ℕ) → Contains lines (line.Unload time id) → ⊥
+
+abbrev pub is_unload : TraceLine → Bool
+is_unload (line.Load t i d s) = false
+is_unload (line.Refused t i n k p q) = false
+is_unload (line.Run t i m f) = false
+is_unload (line.Say t i b) = false
+is_unload (line.Done t i) = false
+is_unload (line.Fault t u i n a) = false
+is_unload (line.Unload t i) = true
+is_unload (line.EndIdle t) = false
+is_unload (line.EndBudget t) = false
+
+pub quiet_by : (lines : List TraceLine) → list_any is_unload lines ≡ false → IsQuiet lines
+quiet_by lines h time id c =
+    true≢false (each_contained (λ x. is_unload x ≡ false) lines (line.Unload time id) (any_nowhere is_unload lines h) c)
+
+given_quiet : (o : Option Given) (m : Module) (domain image : ℕ) (k : KernelState) (r : RunnerState) → IsQuiet (load_given o m domain image k r).lines
+given_quiet None m domain image k r = quiet_by (load_given None m domain image k r).lines refl
+given_quiet (Some g) m domain image k r = quiet_by (load_given (Some g) m domain image k r).lines refl
+
+in_quiet : (o : Option ℕ) (m : Module) (image : ℕ) (k : KernelState) (r : RunnerState) → IsQuiet (load_in o m image k r).lines
+in_quiet None m image k r = quiet_by (load_in None m image k r).lines refl
+in_quiet (Some domain) m image k r = given_quiet (given k domain m.state_size) m domain image k r
+
+new_quiet : (b : Bool) (m : Module) (image : ℕ) (k : KernelState) (r : RunnerState) → IsQuiet (load_new b m image k r).lines
+new_quiet true m image k r = quiet_by (load_new true m image k r).lines refl
+new_quiet false m image k r = in_quiet (free_domain k.modules) m image k r
+
+image_quiet : (o : Option (Option Module)) (image : ℕ) (k : KernelState) (r : RunnerState) → IsQuiet (load_image o image k r).lines
+image_quiet None image k r = quiet_by [] refl
+image_quiet (Some None) image k r = quiet_by [] refl
+image_quiet (Some (Some m)) image k r = new_quiet (is_loaded k.modules m.id) m image k r
+
+pub came_quiet : (images : List (Option Module)) (w : What) (k : KernelState) (r : RunnerState) → IsQuiet (came images w k r).lines
+came_quiet images (what.Load n) k r = image_quiet (slice_get images n) n k r
+
+-- A fault unloads the module of the running domain.
+
+pub unloaded_id : (lines : List TraceLine) (x : TraceLine) (at id time : ℕ) (other : ℕ) → is_unload x ≡ false → IsQuiet lines → Contains (lines ++ x ∷ line.Unload at other ∷ []) (line.Unload time id) → other ≡ id
+unloaded_id lines x at id time other not_it quiet c =
+    elim (Contains-append_cases lines (x ∷ line.Unload at other ∷ []) (line.Unload time id) c) [
+      | inl before ↦ absurd (quiet time id before)
+      | inr later ↦
+          elim (contained_cases x (line.Unload at other ∷ []) (line.Unload time id) later) [
+            | inl e ↦ absurd (true≢false (ap is_unload (sym e) ∙ not_it))
+            | inr last ↦
+                elim (contained_cases (line.Unload at other) [] (line.Unload time id) last) [
+                  | inl e ↦ cc
+                  | inr none ↦ absurd (contained_nowhere (line.Unload time id) none)
+                ]
+          ]
+    ]
+
+-- The change after a fault or a watchdog's strike names nothing of a module whose id the lines unload.
+faulted_clean : (note : FaultNote) (run : Running) (k : KernelState) (r : RunnerState) (lines : List TraceLine) → GoodMachine k r → k.running ≡ Some run → IsQuiet lines → (time : ℕ) (m : ModuleRow) → Contains (faulted note run k r lines).lines (line.Unload time m.id) → Contains k.modules m → ¬ Names (faulted note run k r lines).kernel m.id m.domain
+faulted_clean note run k r lines h i quiet time m c cm =
+    let id = unloaded_id lines _ k.clock m.id time (id_at k.modules run.domain) refl quiet c in
+    let e = its_domain k r run.domain m h (running_good k r run h i).0.loaded cm id in
+    subst (λ (d : ℕ). ¬ Names (purged (handler_ended k) d) m.id m.domain) e (purged_names k r m h cm)
+
+-- a unit's step unloads nothing, nor does a handler's end
+pub step_quiet : (k : KernelState) (r : RunnerState) (got : Acted) → UnitStep k r got → IsQuiet got.lines
+step_quiet k r got step time id h =
+    act_unloads_nothing k r time id (subst (λ (xs : List TraceLine). Contains xs (line.Unload time id)) step.lines h)
+
+pub done_quiet : (run : Running) (k : KernelState) (r : RunnerState) (lines : List TraceLine) → IsQuiet lines → IsQuiet (settled Over run k r lines).lines
+done_quiet run k r lines quiet time id c =
+    elim (Contains-append_cases lines (line.Done k.clock (id_at k.modules run.domain) ∷ []) (line.Unload time id) c) [
+      | inl before ↦ quiet time id before
+      | inr later ↦ quiet_by (line.Done k.clock (id_at k.modules run.domain) ∷ []) refl time id later
+    ]
+
+settled_clean : (e : UnitEnd) (run : Running) (k : KernelState) (r : RunnerState) (lines : List TraceLine) → GoodMachine k r → k.running ≡ Some run → IsQuiet lines → (time : ℕ) (m : ModuleRow) → Contains (settled e run k r lines).lines (line.Unload time m.id) → Contains k.modules m → ¬ Names (settled e run k r lines).kernel m.id m.domain
+settled_clean On run k r lines h i quiet time m c cm = absurd (quiet time m.id c)
+settled_clean Over run k r lines h i quiet time m c cm = absurd (done_quiet run k r lines quiet time m.id c)
+settled_clean (Fault note) run k r lines h i quiet time m c cm = faulted_clean note run k r lines h i quiet time m c cm
+
+made_clean : (c : Choice) (s : State) (got : Acted) → Good s → Facts c s → May c s got → UnloadsCleanly s (made c s got).state (made c s got).lines
+made_clean Stays s got g facts may time m c cm = absurd (quiet_by [] refl time m.id c)
+made_clean (Comes e) s got g facts may time m c cm = absurd (came_quiet s.images e.what s.kernel s.runner time m.id c)
+made_clean (Jumps now) s got g facts may time m c cm = absurd (quiet_by [] refl time m.id c)
+made_clean Idles s got g facts may time m c cm = absurd (quiet_by (line.EndIdle s.kernel.clock ∷ []) refl time m.id c)
+made_clean Budgets s got g facts may time m c cm = absurd (quiet_by (line.EndBudget s.kernel.clock ∷ []) refl time m.id c)
+made_clean (Watches run) s got g facts may time m c cm = faulted_clean (watchdog s) run s.kernel s.runner [] g.machine facts.running (quiet_by [] refl) time m c cm
+made_clean (Acts run) s got g facts may time m c cm =
+    let rest = step_processor_alone s.kernel s.runner got may in
+    let running : got.kernel.running ≡ Some run = ap (λ (k : KernelState). k.running) rest ∙ facts.running in
+    let there : Contains got.kernel.modules m = subst (λ (k : KernelState). Contains k.modules m) (sym rest) cm in
+    λ names.
+    settled_clean got.ending run got.kernel got.runner got.lines (step_good s.kernel s.runner got may g.machine) running (step_quiet s.kernel s.runner got may) time m c there
+    (names_alike (settled got.ending run got.kernel got.runner got.lines).kernel _ m.id m.domain refl refl refl refl names)
+
+pub turn_unloads : (s t : State) (lines : List TraceLine) → Good s → Turn s t lines → UnloadsCleanly s t lines
+turn_unloads s t lines g turn time m c cm =
+    leaves (λ (x : State). ¬ Names x.kernel m.id m.domain)
+    (λ x memory same clean names. clean (names_alike x.kernel (with_memory x.kernel memory) m.id m.domain refl refl refl refl names))
+    (choice s) (made (choice s) s turn.got).state t turn.to
+    (made_clean (choice s) s turn.got g (choice_facts s) turn.may time m (subst (λ (xs : List TraceLine). Contains xs (line.Unload time m.id)) turn.tells c) cm)

@@ -1,0 +1,60 @@
+-- What each choice of a turn says of the state.
+use Rattle.std.specs.Prelude.{◌≡◌, ◌≢◌, ℕ, ◌<◌, ◌≤◌, [], Some, None, slice_get}
+use Rattle.domain_model.specs.declared.handler.Running.{Running}
+use Rattle.domain_model.specs.declared.event.Event.{Event}
+use Rattle.domain_model.specs.declared.event.Choice.{Choice}
+use Rattle.domain_model.specs.declared.event.Choice.TheVariants.{Stays, Comes, Jumps, Idles, Budgets, Watches, Acts}
+use Rattle.domain_model.specs.declared.event.Turned.TheVariants.{More}
+use Rattle.domain_model.specs.State.{State}
+
+-- Outside a handler the first event is due.
+pub record IsDue (e : Event) (s : State) : Type 0 where
+  pub live : s.ended ≡ More
+  pub outside : s.kernel.running ≡ None
+  pub first : slice_get s.events 0 ≡ Some e
+  pub due : e.time ≤ s.kernel.clock
+
+-- Outside a handler the first event is due at a later time.
+pub record IsLater (time : ℕ) (s : State) : Type 0 where
+  pub live : s.ended ≡ More
+  pub outside : s.kernel.running ≡ None
+  pub event : Event
+  pub first : slice_get s.events 0 ≡ Some event
+  pub time_of : event.time ≡ time
+  pub later : s.kernel.clock < time
+
+-- Outside a handler no event is to come.
+pub record IsIdle (s : State) : Type 0 where
+  pub live : s.ended ≡ More
+  pub outside : s.kernel.running ≡ None
+  pub none : s.events ≡ []
+
+-- In a handler the budget of units is spent.
+pub record IsSpent (s : State) : Type 0 where
+  pub live : s.ended ≡ More
+  pub run : Running
+  pub running : s.kernel.running ≡ Some run
+  pub total : s.total ≡ s.unit_limit
+
+-- In a handler there is budget left, but not for this handler.
+pub record IsStruck (run : Running) (s : State) : Type 0 where
+  pub live : s.ended ≡ More
+  pub running : s.kernel.running ≡ Some run
+  pub total : s.total ≢ s.unit_limit
+  pub spent : s.spent ≡ s.handler_limit
+
+-- In a handler there is budget left, also for this handler.
+pub record IsActing (run : Running) (s : State) : Type 0 where
+  pub live : s.ended ≡ More
+  pub running : s.kernel.running ≡ Some run
+  pub total : s.total ≢ s.unit_limit
+  pub spent : s.spent ≢ s.handler_limit
+
+abbrev pub Facts : Choice → State → Type 0
+Facts Stays s = s.ended ≢ More
+Facts (Comes e) s = IsDue e s
+Facts (Jumps time) s = IsLater time s
+Facts Idles s = IsIdle s
+Facts Budgets s = IsSpent s
+Facts (Watches run) s = IsStruck run s
+Facts (Acts run) s = IsActing run s
