@@ -1,0 +1,5 @@
+pub mod Least
+pub mod MoteLaws
+pub mod Retained
+pub mod Rooms
+pub mod Spelling

@@ -1,0 +1,19 @@
+use Rattle.std.proofs.Common.{◌≡◌, ◌∙◌, sym, ap, arith}
+use Rattle.domain_model.specs.declared.unit.Unit.{Unit}
+use Rattle.domain_model.proofs.ActLaws.{unit_is_built, next_unit_built, running_good, bank_proper}
+use Rattle.mote_core.proofs.unit_run.PlainRunner.run_unit.Goals as goal
+
+pub run_one-requires-clause-built : goal.run_one-requires-clause-built
+run_one-requires-clause-built c = unit_is_built c.args.k.now c.args.self.now c.args.run.now c.in-Some.unit c.requires.good c.requires.running (sym c.next_unit.ensures ∙ c.in-Some.is)
+
+pub run_one-requires-clause-unit : goal.run_one-requires-clause-unit
+run_one-requires-clause-unit c =
+    let good = (running_good c.args.k.now c.args.self.now c.args.run.now c.requires.good c.requires.running).0 in
+    let proper = bank_proper c.args.k.now c.args.self.now c.args.run.now c.requires.good c.requires.running in
+    omega (arith, good.unit, proper.fits)
+
+pub unreachable-requires : goal.unreachable-requires
+unreachable-requires c =
+    let here = next_unit_built c.args.k.now c.args.self.now c.args.run.now c.requires.good c.requires.running in
+    let some = here.next in
+    cc

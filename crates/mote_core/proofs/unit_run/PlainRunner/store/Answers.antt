@@ -1,0 +1,12 @@
+use Rattle.std.proofs.Common.{◌≡◌, ◌∙◌, sym, ap, arith, ◌≤◌, true}
+use Rattle.domain_model.specs.Act.{may_store}
+use Rattle.domain_model.proofs.ActLaws.{store_in_memory}
+use Rattle.mote_core.proofs.unit_run.PlainRunner.store.Goals as goal
+
+pub store-requires-clause-low : goal.store-requires-clause-low
+store-requires-clause-low c = (store_in_memory c.args.k.now c.args.self.now c.args.run.now c.pair-address.result c.requires.good c.requires.running (sym c.may_store.ensures ∙ c.if-not-may_store.false)).0
+
+pub store-requires-clause-high : goal.store-requires-clause-high
+store-requires-clause-high c =
+    let inside = store_in_memory c.args.k.now c.args.self.now c.args.run.now c.pair-address.result c.requires.good c.requires.running (sym c.may_store.ensures ∙ c.if-not-may_store.false) in
+    omega (arith, inside.1)

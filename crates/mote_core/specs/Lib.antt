@@ -1,0 +1,4 @@
+pub mod Kernel
+pub mod View
+pub mod Listed
+pub mod Value

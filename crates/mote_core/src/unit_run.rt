@@ -1,0 +1,253 @@
+//! Runs the units of the loaded modules.
+ghost use Rattle.std.specs.Prelude.{◌≡◌, ◌<◌, ◌≤◌, ◌+◌, ◌++◌, [], length, IfOk, Some, slice_get};
+ghost use Rattle.domain_model.specs.State.{no_runner};
+ghost use Rattle.domain_model.specs.Act.{act, act_unit, next_unit, plain_effect, store_effect, store_address};
+ghost use Rattle.domain_model.specs.State.{with_processor};
+ghost use Rattle.domain_model.specs.Turn.{placed, emptied, entered};
+ghost use Rattle.domain_model.specs.Units.{IsBuilt};
+ghost use Rattle.domain_model.specs.Good.{GoodMachine, GoodRunning};
+
+use crate::kernel_call::Kernel;
+use avr_isa::Instr;
+use domain_model::{FaultNote, Lines, Rule, Running, TraceLine, Unit, UnitEnd};
+use mote_base::NoMemory;
+use mote_layout::DOMAINS;
+use std::alloc::Global;
+use std::marker::Model;
+
+/// The lower register of X.
+const X: u8 = 26;
+
+/// The register of a kernel call's byte argument.
+const BYTE: u8 = 24;
+
+/// The most units of a bank: one a word.
+const BANK_UNITS: usize = 2048;
+
+/// The units of one domain's module.
+#[derive(Drop)]
+struct Bank {
+    units: Vec<Unit>,
+}
+
+impl Model for Bank {
+    ghost use Rattle.std.specs.Prelude.{◌≤◌, List, vec_capacity};
+    ghost use Rattle.domain_model.specs.declared.unit.Unit.{Unit};
+
+    ghost Value = { List Unit };
+
+    ghost view = { λ b. b.units.items };
+
+    ghost invariant = { λ b. 2048 ≤ vec_capacity b.units };
+}
+
+impl Bank {
+    fn new(alloc: Global) -> Result<Bank, NoMemory>
+        ensures { IfOk result (λ b. b ≡ []) }
+    {
+        let units = Vec::with_capacity(alloc, BANK_UNITS)?;
+        Ok(Bank { units })
+    }
+
+    fn get(&self, number: u16) -> Option<Unit>
+        ensures { result ≡ slice_get self.now number }
+    {
+        self.units.get(usize::from(number)).copied()
+    }
+
+    fn fill(&mut self, units: &[Unit])
+        requires { length units.now ≤ 2048 }
+        ensures { self.new ≡ units.now }
+    {
+        self.units.clear();
+        let _filled = self.units.extend_from_slice(units);
+    }
+}
+
+/// The units of each domain, and the number of the one that runs next.
+#[derive(Drop)]
+pub struct PlainRunner {
+    banks: Vec<Bank>,
+    unit: u16,
+}
+
+impl Model for PlainRunner {
+    ghost use Rattle.std.specs.Prelude.{◌≡◌, length};
+    ghost use Rattle.domain_model.specs.State.{RunnerState};
+
+    ghost Value = { RunnerState };
+
+    ghost view = { λ r. record { banks = r.banks.items; unit = r.unit } };
+
+    ghost invariant = { λ r. length r.banks.items ≡ 7 };
+}
+
+impl PlainRunner {
+    /// No units are placed.
+    pub fn new(alloc: Global) -> Result<PlainRunner, NoMemory>
+        ensures { IfOk result (λ r. r ≡ no_runner) }
+    {
+        let mut banks = Vec::with_capacity(alloc, usize::from(DOMAINS))?;
+        for _domain in 0..DOMAINS {
+            banks.push(Bank::new(alloc)?)?;
+        }
+        Ok(PlainRunner { banks, unit: 0 })
+    }
+
+    /// The number of the unit that runs next.
+    pub fn here(&self) -> u16
+        ensures { result ≡ self.now.unit }
+    {
+        self.unit
+    }
+
+    /// Puts units into a domain.
+    pub fn place(&mut self, domain: u8, units: &[Unit])
+        requires domain { domain < 7 }
+        requires fits { length units.now ≤ 2048 }
+        ensures { self.new ≡ placed self.old domain units.now }
+    {
+        let bank = &mut self.banks[usize::from(domain)];
+        bank.fill(units);
+    }
+
+    /// Takes the units of a domain out.
+    pub fn empty(&mut self, domain: u8)
+        requires domain { domain < 7 }
+        ensures { self.new ≡ emptied self.old domain }
+    {
+        self.place(domain, &[]);
+    }
+
+    /// Another unit is next.
+    pub fn enter(&mut self, unit: u16)
+        ensures { self.new ≡ entered self.old unit }
+    {
+        self.unit = unit;
+    }
+
+    fn next_unit(&self, run: &Running) -> Option<Unit>
+        ensures { result ≡ next_unit self.now run.now }
+    {
+        match self.banks.get(usize::from(run.domain)) {
+            Some(bank) => bank.get(self.unit),
+            None => None,
+        }
+    }
+
+    fn go_on(&mut self) -> UnitEnd
+        requires { self.old.unit < 2048 }
+        ensures next { self.new ≡ record self.old { unit = self.old.unit + 1 } }
+        ensures on { result ≡ UnitEnd.On }
+    {
+        self.unit += 1;
+        UnitEnd::On
+    }
+
+    fn store(&mut self, instruction: &Instr, run: &Running, k: &mut Kernel) -> UnitEnd
+        requires built { IsBuilt (Unit.Store instruction.now) }
+        requires unit { self.old.unit < 2048 }
+        requires good { GoodMachine k.old self.old }
+        requires running { k.old.running ≡ Some run.now }
+        ensures kernel { k.new ≡ (act_unit (Unit.Store instruction.now) run.now k.old self.old).kernel }
+        ensures runner { self.new ≡ (act_unit (Unit.Store instruction.now) run.now k.old self.old).runner }
+        ensures ending { result ≡ (act_unit (Unit.Store instruction.now) run.now k.old self.old).ending }
+    {
+        let address = k.cpu().pair(X);
+        if !k.may_store(run, address) {
+            return fault(Rule::Store, address);
+        }
+        match *instruction {
+            Instr::StX(r) => {
+                let value = k.cpu().register(r);
+                k.store(address, value);
+            }
+            _ => unreachable!(),
+        }
+        self.go_on()
+    }
+
+    fn kernel_call(&mut self, run: &Running, k: &mut Kernel, lines: &mut Lines) -> UnitEnd
+        requires unit { self.old.unit < 2048 }
+        requires room { length lines.old + 8 ≤ 512 }
+        ensures kernel { k.new ≡ (act_unit (Unit.KernelCall 8) run.now k.old self.old).kernel }
+        ensures runner { self.new ≡ (act_unit (Unit.KernelCall 8) run.now k.old self.old).runner }
+        ensures lines { lines.new ≡ lines.old ++ (act_unit (Unit.KernelCall 8) run.now k.old self.old).lines }
+        ensures ending { result ≡ (act_unit (Unit.KernelCall 8) run.now k.old self.old).ending }
+    {
+        let byte = k.cpu().register(BYTE);
+        lines.add(TraceLine::Say {
+            time: k.clock(),
+            id: k.id_at(run.domain),
+            byte,
+        });
+        k.answer(0);
+        self.go_on()
+    }
+
+    fn run_one(&mut self, unit: &Unit, run: &Running, k: &mut Kernel, lines: &mut Lines) -> UnitEnd
+        requires built { IsBuilt unit.now }
+        requires unit { self.old.unit < 2048 }
+        requires good { GoodMachine k.old self.old }
+        requires running { k.old.running ≡ Some run.now }
+        requires room { length lines.old + 8 ≤ 512 }
+        ensures kernel { k.new ≡ (act_unit unit.now run.now k.old self.old).kernel }
+        ensures runner { self.new ≡ (act_unit unit.now run.now k.old self.old).runner }
+        ensures lines { lines.new ≡ lines.old ++ (act_unit unit.now run.now k.old self.old).lines }
+        ensures ending { result ≡ (act_unit unit.now run.now k.old self.old).ending }
+    {
+        match unit {
+            Unit::Plain(instruction) => {
+                plain(k, instruction);
+                self.go_on()
+            }
+            Unit::Store(instruction) => self.store(instruction, run, k),
+            Unit::KernelCall(_) => self.kernel_call(run, k, lines),
+            Unit::Return => {
+                let sp = k.cpu().sp();
+                if sp == run.base {
+                    UnitEnd::Over
+                } else {
+                    fault(Rule::Balance, sp)
+                }
+            }
+        }
+    }
+
+    /// Runs the next unit.
+    pub fn run_unit(&mut self, run: &Running, k: &mut Kernel, lines: &mut Lines) -> UnitEnd
+        requires good { GoodMachine k.old self.old }
+        requires running { k.old.running ≡ Some run.now }
+        requires room { length lines.old + 8 ≤ 512 }
+        ensures kernel { k.new ≡ (act k.old self.old).kernel }
+        ensures runner { self.new ≡ (act k.old self.old).runner }
+        ensures lines { lines.new ≡ lines.old ++ (act k.old self.old).lines }
+        ensures ending { result ≡ (act k.old self.old).ending }
+    {
+        match self.next_unit(run) {
+            Some(unit) => self.run_one(&unit, run, k, lines),
+            None => unreachable!(),
+        }
+    }
+}
+
+// A load of a constant, or a copy of a register.
+fn plain(k: &mut Kernel, instruction: &Instr)
+    requires { IsBuilt (Unit.Plain instruction.now) }
+    ensures { k.new ≡ with_processor k.old (plain_effect instruction.now k.old.processor) }
+{
+    match *instruction {
+        Instr::Ldi(d, value) => k.set_register(d, value),
+        Instr::Mov(d, r) => {
+            let value = k.cpu().register(r);
+            k.set_register(d, value);
+        }
+        _ => unreachable!(),
+    }
+}
+
+fn fault(rule: Rule, address: u16) -> UnitEnd
+    ensures { result ≡ UnitEnd.Fault (record { rule = rule; address = address }) }
+{
+    UnitEnd::Fault(FaultNote { rule, address })
+}
