@@ -7,12 +7,13 @@ use Rattle.std.proofs.lemmas.List.{length-set}
 use Rattle.avr_isa.specs.declared.instruction.Instr.{Instr}
 use Rattle.avr_isa.specs.declared.instruction.Instr.TheVariants.{Ldi, Mov, StX}
 use Rattle.mote_layout.specs.Memory.{ram_start, ram_end, bank_words}
+use Rattle.mote_layout.specs.Blocks.{owns}
 use Rattle.domain_model.specs.declared.unit.Unit.{Unit}
 use Rattle.domain_model.specs.declared.unit.Unit.TheVariants.{Plain, Store, KernelCall, Return}
 use Rattle.domain_model.specs.declared.handler.Running.{Running}
 use Rattle.domain_model.specs.declared.line.TraceLine.TheVariants as line
 use Rattle.domain_model.specs.State.{Processor, KernelState, RunnerState, with_processor}
-use Rattle.domain_model.specs.Act.{Acted, act, act_running, act_at, act_store, act_return, act_call, plain_effect, store_effect, store_address, may_store, owns, bank, next_unit}
+use Rattle.domain_model.specs.Act.{Acted, act, act_running, act_at, act_store, act_return, act_call, plain_effect, store_effect, store_address, may_store, bank, next_unit}
 use Rattle.domain_model.specs.Units.{IsBuilt, AreProper, is_return, ends_in_return, say_call}
 use Rattle.domain_model.specs.Good.{GoodMachine, GoodModule, GoodHandler, GoodRunning, GoodHand}
 use Rattle.domain_model.proofs.Kept.{each_at, each_contained, contained_nowhere, contained_cases}

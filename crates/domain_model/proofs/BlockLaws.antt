@@ -5,14 +5,14 @@ use Rattle.std.proofs.lemmas.Bool.{cases_Bool, cond-true, cond-false, cond_both,
 use Rattle.std.proofs.lemmas.Option.{none-some, same_Some}
 use Rattle.std.proofs.lemmas.List.{length-append, length-take, length-drop, length-replicate}
 use Rattle.mote_layout.specs.Memory.{ram_start, block_bytes, domain_count}
-use Rattle.mote_layout.specs.Blocks.{AreBlocks, AreBlocksFrom, block_address, covers, inserted, without_owner}
+use Rattle.mote_layout.specs.Blocks.{AreBlocks, AreBlocksFrom, block_address, covers, inserted, without_owner, owns}
 use Rattle.mote_layout.specs.Fit.{least_of, fit, blocks_for}
 use Rattle.mote_layout.specs.declared.segment.Segment.{Segment}
-use Rattle.mote_layout.proofs.BlockLists.{AreBlocks-inserted, covers-true}
+use Rattle.mote_layout.proofs.BlockLists.{AreBlocks-inserted}
+use Rattle.mote_layout.proofs.Owners.{covers-true}
 use Rattle.mote_layout.proofs.LeastFit.{fit-some}
 use Rattle.domain_model.specs.declared.module.ModuleRow.{ModuleRow}
 use Rattle.domain_model.specs.State.{KernelState, with_zeros}
-use Rattle.domain_model.specs.Act.{owns}
 use Rattle.domain_model.specs.Turn.{in_use, free_domain, Given, given_at, given_where, given, without_domain}
 use Rattle.domain_model.specs.Good.{AreOwned}
 use Rattle.domain_model.proofs.Kept.{each_weaker, each_filter}

@@ -5,6 +5,7 @@ use Rattle.std.proofs.lemmas.List.{get_or-set_other}
 use Rattle.avr_isa.specs.declared.instruction.Instr.{Instr}
 use Rattle.avr_isa.specs.declared.instruction.Instr.TheVariants.{StX}
 use Rattle.mote_layout.specs.Memory.{ram_start, red_zone_start, kernel_bytes_start, kernel_bytes_end}
+use Rattle.mote_layout.specs.Blocks.{owns}
 use Rattle.domain_model.specs.declared.unit.Unit.{Unit}
 use Rattle.domain_model.specs.declared.unit.Unit.TheVariants.{Plain, Store, KernelCall, Return}
 use Rattle.domain_model.specs.declared.event.Choice.TheVariants.{Acts}
@@ -14,7 +15,7 @@ use Rattle.domain_model.specs.declared.fault.UnitEnd.TheVariants.{On, Over, Faul
 use Rattle.domain_model.specs.declared.handler.Running.{Running}
 use Rattle.domain_model.specs.declared.line.TraceLine.{TraceLine}
 use Rattle.domain_model.specs.State.{KernelState, RunnerState, State, register, with_byte}
-use Rattle.domain_model.specs.Act.{Acted, act, act_running, act_at, act_store, act_return, act_call, store_effect, store_address, may_store, owns, next_unit}
+use Rattle.domain_model.specs.Act.{Acted, act, act_running, act_at, act_store, act_return, act_call, store_effect, store_address, may_store, next_unit}
 use Rattle.domain_model.specs.Free.{UnitStep, unit_free, is_dead, is_kernel_byte, calls_kernel, ends_handler, enters_from, enters_kernel, dead_top}
 use Rattle.domain_model.specs.Turn.{settled, at_clock, made, Turn}
 use Rattle.domain_model.specs.Good.{GoodMachine, GoodRunning, Good}

@@ -1,11 +1,9 @@
 -- What one unit does.
-use Rattle.std.specs.Prelude.{ℕ, ◌+◌, ◌==◌, ◌&&◌, ◌||◌, nat_lt, nat_le, List, [], ◌∷◌, Bool, true, false, Option, Some, None, slice_get, find, unwrap_or}
-use Rattle.std.specs.List.{list_any}
+use Rattle.std.specs.Prelude.{ℕ, ◌+◌, ◌==◌, List, [], ◌∷◌, Bool, true, false, Option, Some, None, slice_get, find, unwrap_or}
 use Rattle.std.specs.Option.{option_map_or}
 use Rattle.avr_isa.specs.declared.instruction.Instr.{Instr}
 use Rattle.avr_isa.specs.declared.instruction.Instr.TheVariants.{Ldi, Mov, StX}
-use Rattle.mote_layout.specs.Blocks.{covers}
-use Rattle.mote_layout.specs.declared.segment.Segment.{Segment}
+use Rattle.mote_layout.specs.Store.{may_store as permits}
 use Rattle.domain_model.specs.declared.unit.Unit.{Unit}
 use Rattle.domain_model.specs.declared.unit.Unit.TheVariants.{Plain, Store, KernelCall, Return}
 use Rattle.domain_model.specs.declared.module.ModuleRow.{ModuleRow}
@@ -47,14 +45,9 @@ module_at modules domain = find (λ m. m.domain == domain) modules
 abbrev pub id_at : List ModuleRow → ℕ → ℕ
 id_at modules domain = option_map_or (λ (m : ModuleRow). m.id) (module_at modules domain) 0
 
--- The address lies in a block of the domain.
-abbrev pub owns : List Segment → ℕ → ℕ → Bool
-owns blocks domain address = list_any (λ s. s.owner == domain && covers s address) blocks
-
 -- Where the running domain may store: in its own blocks, and on its own part of the stack.
 abbrev pub may_store : KernelState → Running → ℕ → Bool
-may_store k run address =
-    owns k.blocks run.domain address || (nat_lt k.processor.sp address && nat_le address run.bound)
+may_store k run address = permits k.blocks run.domain k.processor.sp run.bound address
 
 -- What a load of a constant and a copy of a register do to the processor.
 abbrev pub plain_effect : Instr → Processor → Processor

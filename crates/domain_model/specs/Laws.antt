@@ -1,7 +1,7 @@
 -- What holds of every turn of every run.
 use Rattle.std.specs.Prelude.{◌≡◌, ◌≢◌, ◌⊎◌, ℕ, ◌+◌, ◌≤◌, List, Option, Some, None, Contains, true, false, slice_index, ⊤}
 use Rattle.mote_layout.specs.Memory.{ram_start, red_zone_start, kernel_bytes_start, kernel_bytes_end, kernel}
-use Rattle.mote_layout.specs.Blocks.{without_owner}
+use Rattle.mote_layout.specs.Blocks.{without_owner, owns}
 use Rattle.mote_layout.specs.declared.segment.Segment.{Segment}
 use Rattle.domain_model.specs.declared.module.ModuleRow.{ModuleRow}
 use Rattle.domain_model.specs.declared.handler.Running.{Running}
@@ -12,7 +12,7 @@ use Rattle.domain_model.specs.declared.fault.UnitEnd.TheVariants.{Fault}
 use Rattle.domain_model.specs.declared.line.TraceLine.{TraceLine}
 use Rattle.domain_model.specs.declared.line.TraceLine.TheVariants as line
 use Rattle.domain_model.specs.State.{KernelState, State}
-use Rattle.domain_model.specs.Act.{act, owns}
+use Rattle.domain_model.specs.Act.{act}
 use Rattle.domain_model.specs.Free.{enters_kernel}
 use Rattle.domain_model.specs.Turn.{choice, without_domain, Turn, RunBy, RunFrom}
 use Rattle.domain_model.specs.Good.{Good}

@@ -1,8 +1,7 @@
 //! The owned blocks of the heap.
 ghost use Rattle.std.specs.Prelude.{◌≡◌, ◌<◌, ◌≤◌, ◌+◌, ◌*◌, ◌-◌, ◌||◌, [], length, nat_le, nat_lt, Some, None, IfSome, IfNone, insert};
-ghost use Rattle.mote_layout.specs.Blocks.{covers, inserted, without_owner, AreBlocks};
+ghost use Rattle.mote_layout.specs.Blocks.{covers, owns, inserted, without_owner, AreBlocks};
 ghost use Rattle.mote_layout.specs.Fit.{fit, fits};
-ghost use Rattle.domain_model.specs.Act.{owns};
 
 use arrayvec::ArrayVec;
 use mote_layout::{BLOCK_BYTES, BLOCKS, HEAP_START, Segment};
