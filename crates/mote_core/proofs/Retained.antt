@@ -1,5 +1,5 @@
 -- What a filter in place leaves.
-use Rattle.std.proofs.Common.{◌≡◌, ◌∙◌, sym, ap, subst, List, [], ◌∷◌, Bool, true, false, filter, cond}
+use Rattle.std.proofs.Common.{◌≡◌, ◌∙◌, ap, subst, List, [], ◌∷◌, Bool, filter, cond}
 use Rattle.std.specs.List.Retain.{RetainsInTurn}
 
 -- a closure that only tests, and stays as it was, keeps the elements that pass the test

@@ -1,7 +1,7 @@
 -- Why there is room for one more module and one more block.
-use Rattle.std.proofs.Common.{◌≡◌, ◌≢◌, ◌∙◌, refl, sym, ap, subst, ℕ, zero, suc, ◌+◌, ◌<◌, ◌≤◌, ◌==◌, inl, inr, List, [], ◌∷◌, ◌++◌, length, filter, not, true, false, cond, arith, nat_lt, length-append, Some}
+use Rattle.std.proofs.Common.{◌≡◌, ◌≢◌, ◌∙◌, refl, sym, ℕ, zero, suc, ◌+◌, ◌<◌, ◌≤◌, ◌==◌, inl, inr, List, [], ◌∷◌, ◌++◌, length, not, false, arith, nat_lt, length-append, Some}
 use Rattle.std.specs.List.{AllByRecursion}
-use Rattle.std.proofs.lemmas.Bool.{cases_Bool, cases_eq, eq-eqb, eqb-true, eqb-false}
+use Rattle.std.proofs.lemmas.Bool.{cases_Bool, eqb-true}
 use Rattle.mote_layout.specs.Blocks.{AreBlocks, inserted, Fits}
 use Rattle.mote_layout.specs.Fit.{fit}
 use Rattle.mote_layout.specs.declared.segment.Segment.{Segment}

@@ -1,5 +1,5 @@
 -- Units in a vector, seen as a list.
-use Rattle.std.specs.Prelude.{List, Option, Some, None, Vec, ℕ}
+use Rattle.std.specs.Prelude.{List, Option, Some, None, Vec}
 use Rattle.std.specs.declared.alloc.Global.{Global}
 use Rattle.domain_model.specs.declared.unit.Unit.{Unit}
 

@@ -1,7 +1,6 @@
-use Rattle.std.proofs.Common.{◌≡◌, ◌<◌, ◌≤◌, ◌+◌, ℕ, inl, inr, subst, sym, ◌∙◌, arith}
+use Rattle.std.proofs.Common.{ℕ, inl, inr, subst, sym, ◌∙◌, arith}
 use Rattle.std.proofs.lemmas.Bool.{cases_lt, cases_eq}
 use Rattle.mote_layout.specs.Blocks.{Fits}
-use Rattle.mote_layout.specs.Fit.{fits}
 use Rattle.mote_layout.proofs.LeastFit.{fit-some, fit-none, fits-true}
 use Rattle.mote_core.proofs.sos_heap.fit.Goals as goal
 

@@ -1,4 +1,4 @@
-use Rattle.std.proofs.Common.{◌≡◌, ◌∙◌, sym, ap, subst, length, ◌<◌}
+use Rattle.std.proofs.Common.{◌∙◌, sym, ap, length, ◌<◌}
 use Rattle.domain_model.specs.declared.module.ModuleRow.{ModuleRow}
 use Rattle.domain_model.specs.State.{KernelState}
 use Rattle.domain_model.proofs.BlockLaws.{free_domain_is_free}

@@ -1,4 +1,4 @@
-use Rattle.std.proofs.Common.{◌≡◌, arith}
+use Rattle.std.proofs.Common.{arith}
 use Rattle.mote_core.proofs.Spelling.{spelled-over}
 use Rattle.mote_core.proofs.unit_code.spelled.Goals as goal
 

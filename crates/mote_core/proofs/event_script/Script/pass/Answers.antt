@@ -1,4 +1,4 @@
-use Rattle.std.proofs.Common.{◌≡◌, sym, drop-drop}
+use Rattle.std.proofs.Common.{sym, drop-drop}
 use Rattle.mote_core.proofs.event_script.Script.pass.Goals as goal
 
 pub returns : goal.returns

@@ -1,4 +1,4 @@
-use Rattle.std.proofs.Common.{◌≡◌, ◌∙◌, ap, slice_get}
+use Rattle.std.proofs.Common.{◌∙◌, ap, slice_get}
 use Rattle.std.proofs.lemmas.Option.{slice_get_within}
 use Rattle.domain_model.specs.declared.event.Choice.TheVariants.{Comes}
 use Rattle.domain_model.specs.State.{State}

@@ -1,6 +1,5 @@
-use Rattle.std.proofs.Common.{◌≡◌, ◌∙◌, sym, ap}
 use Rattle.domain_model.specs.declared.event.Choice.TheVariants.{Watches}
-use Rattle.mote_core.proofs.MoteLaws.{facts_of, good_of}
+use Rattle.mote_core.proofs.MoteLaws.{good_of}
 use Rattle.mote_core.proofs.mote.Mote.watch.Goals as goal
 
 pub invariant_of-self : goal.invariant_of-self

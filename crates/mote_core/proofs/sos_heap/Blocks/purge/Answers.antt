@@ -1,5 +1,5 @@
-use Rattle.std.proofs.Common.{◌≡◌, rules, sym, subst, not, ◌==◌}
-use Rattle.mote_layout.specs.Blocks.{AreBlocks, without_owner}
+use Rattle.std.proofs.Common.{rules, sym, subst, not, ◌==◌}
+use Rattle.mote_layout.specs.Blocks.{AreBlocks}
 use Rattle.mote_layout.specs.declared.segment.Segment.{Segment}
 use Rattle.mote_layout.proofs.BlockLists.{AreBlocks-without_owner}
 use Rattle.mote_core.proofs.Retained.{retained}

@@ -1,5 +1,4 @@
-use Rattle.std.proofs.Common.{◌≡◌, ◌∙◌, sym, ap, arith}
-use Rattle.domain_model.specs.declared.unit.Unit.{Unit}
+use Rattle.std.proofs.Common.{◌∙◌, sym, arith}
 use Rattle.domain_model.proofs.ActLaws.{unit_is_built, next_unit_built, running_good, bank_proper}
 use Rattle.mote_core.proofs.unit_run.PlainRunner.run_unit.Goals as goal
 

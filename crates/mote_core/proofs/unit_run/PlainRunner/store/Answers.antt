@@ -1,5 +1,4 @@
-use Rattle.std.proofs.Common.{◌≡◌, ◌∙◌, sym, ap, arith, ◌≤◌, true}
-use Rattle.domain_model.specs.Act.{may_store}
+use Rattle.std.proofs.Common.{◌∙◌, sym, arith}
 use Rattle.domain_model.proofs.ActLaws.{store_in_memory}
 use Rattle.mote_core.proofs.unit_run.PlainRunner.store.Goals as goal
 
