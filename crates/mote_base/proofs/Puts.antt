@@ -9,8 +9,8 @@ pub calls_append : {K : Type 0} (leads : K → List ℕ → Bool → K → Type 
 calls_append leads old mid new [] qs ok first next = subst (λ k. Calls leads k qs ok new) first.1 next
 calls_append {K = K} leads old mid new (p ∷ ps) qs ok first next =
     elim first [
-      inl stop ↦ absurd (cc (stop.0))
-    | inr put ↦ inr (put.0, put.1, calls_append leads put.0 mid new ps qs ok put.2 next)
+      | inl stop ↦ absurd (cc (stop.0))
+      | inr put ↦ inr (put.0, put.1, calls_append leads put.0 mid new ps qs ok put.2 next)
     ]
 
 -- A piece behind the failed put is not put.

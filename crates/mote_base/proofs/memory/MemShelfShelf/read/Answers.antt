@@ -1,5 +1,5 @@
 use Rattle.std.proofs.Common.{◌∙◌, ap}
-use Rattle.mote_base.specs.Memory.{FailingShelf}
+use Rattle.mote_base.specs.Shelves.{FailingShelf}
 use Rattle.mote_base.proofs.memory.MemShelfShelf.read.Goals as goal
 
 pub returns-clause-bytes : goal.returns-clause-bytes

@@ -1,5 +1,5 @@
 use Rattle.std.proofs.Common.{◌∙◌, ap}
-use Rattle.mote_base.specs.Memory.{OpenFiles}
+use Rattle.mote_base.specs.Shelves.{OpenFiles}
 use Rattle.mote_base.proofs.sure.SureShelfShelf.read.Goals as goal
 
 pub returns-clause-bytes : goal.returns-clause-bytes

@@ -1,4 +1,4 @@
-use Rattle.std.proofs.Common.{◌≡◌, ◌+◌, ◌*◌, ◌<◌, length, ap, arith}
+use Rattle.std.proofs.Common.{◌<◌, length, ap, arith}
 use Rattle.mote_base.specs.Words.{words_of}
 use Rattle.mote_base.proofs.WordLemmas.{length-words_of, get_or-words_of}
 use Rattle.mote_base.proofs.words.Words.at.Goals as goal

@@ -1,4 +1,4 @@
-use Rattle.std.proofs.Common.{◌≡◌, ◌∙◌, sym, ap, length, refl}
+use Rattle.std.proofs.Common.{◌∙◌, sym, ap, length}
 use Rattle.mote_base.proofs.WordLemmas.{length-words_of}
 use Rattle.mote_base.proofs.words.Words.len.Goals as goal
 
