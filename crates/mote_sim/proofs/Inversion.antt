@@ -71,7 +71,7 @@ record Built (image : List ℕ) (events : Option (List Event)) (found : Option M
 built : (image : List ℕ) (events : Option (List Event)) (found : Option Module) (text : List ℕ) → Answers (outcome_with (input_with image events found)) Done text → Built image events found text
 built image None found text a = let e : Done ≡ Refused = a.0 in absurd (cc)
 built image (Some list) None text a = let e : Done ≡ Refused = a.0 in absurd (cc)
-built image (Some list) (Some m) text a = record { list = list; events_are = refl; loadable = tt; trace = a.1 }
+built image (Some list) (Some m) text a = record { list = list; events_are = refl; loadable = refl; trace = a.1 }
 
 by_two : (files : List (List ℕ)) (script image : List ℕ) (text : List ℕ) → files ≡ script ∷ image ∷ [] → Answers (outcome_by Run files) Done text → Built image (events_of script) (prepared image) text
 by_two files script image text is a = built image (events_of script) (prepared image) text (subst (λ xs. Answers (outcome_by Run xs) Done text) is a)

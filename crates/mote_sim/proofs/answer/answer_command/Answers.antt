@@ -20,5 +20,5 @@ returns-in-Err-TooLong g c =
     (λ s t a. record {
       found = TooLong c.in-Err-TooLong.number;
       may = record { bytes = Longer c.in-Err-TooLong.number; is = refl; told = stops.is };
-      answer = a;
+      answer = (a.0, cc);
     }) stops.kept c.put_size.result c.put_size.ensures

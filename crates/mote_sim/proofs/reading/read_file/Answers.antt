@@ -1,18 +1,18 @@
 use Rattle.std.proofs.Common.{◌≡◌, ◌∙◌, ◌≤◌, ◌<◌, ◌+◌, refl, sym, ap, arith, Some, List, ℕ, length, take}
+use Rattle.std.proofs.lemmas.List.{length-take}
 use Rattle.mote_sim.proofs.Chunks.{length_more, front_more, all_read, longer}
 use Rattle.mote_sim.proofs.reading.read_file.Goals as goal
 
 pub returns-then-count-eq0-clause-reads : goal.returns-then-count-eq0-clause-reads
 returns-then-count-eq0-clause-reads g c =
     let i = c.chunks.invariant in
-    let moved = λ b tells. c.in_ok-count.ensures.bytes _ (i.place b tells) in
-    let all = λ b tells. all_read b c.chunks.bytes.items (i.front b tells) ((moved b tells).ends c.if-count-eq0.true (omega arith)) in
     record {
       held = i.held;
-      all = all;
+      all = λ b tells. all_read b c.chunks.bytes.items (i.front b tells) ((c.in_ok-count.ensures.bytes _ (i.place b tells)).ends c.if-count-eq0.true (omega arith));
       ended = λ b tells.
-          let at : length c.chunks.bytes.items + c.in_ok-count.count ≡ length b = omega (arith, c.if-count-eq0.true, ap length (all b tells)) in
-          (moved b tells).place ∙ ap (λ k. Some (record { file = b; at = k })) at;
+          let all : c.chunks.bytes.items ≡ b = all_read b c.chunks.bytes.items (i.front b tells) ((c.in_ok-count.ensures.bytes _ (i.place b tells)).ends c.if-count-eq0.true (omega arith)) in
+          let at : length c.chunks.bytes.items + c.in_ok-count.count ≡ length b = omega (arith, c.if-count-eq0.true, ap length all) in
+          (c.in_ok-count.ensures.bytes _ (i.place b tells)).place ∙ ap (λ k. Some (record { file = b; at = k })) at;
       fits = omega arith;
       kept = c.in_ok-count.ensures.cause.kept ∙ i.kept;
     }
@@ -40,7 +40,7 @@ chunks-preserved g c =
           (c.in_ok-count.ensures.bytes _ (i.place b tells)).bytes (c.in_ok-count.ensures.bytes _ (i.place b tells)).inside c.in_ok-extend_from_slice.ensures.items));
       front = λ b tells. front_more b c.chunks.bytes.items c.read.new.buf c.extend_from_slice.new.self.items c.in_ok-count.count (i.front b tells)
           (c.in_ok-count.ensures.bytes _ (i.place b tells)).bytes (c.in_ok-count.ensures.bytes _ (i.place b tells)).inside c.in_ok-extend_from_slice.ensures.items;
-      fits = omega arith;
+      fits = omega (arith, c.in_ok-extend_from_slice.ensures.len, length-take c.in_ok-count.count c.read.new.buf);
       kept = c.in_ok-count.ensures.cause.kept ∙ i.kept;
       files = c.in_ok-count.ensures.files ∙ i.files;
       names = c.in_ok-count.ensures.names ∙ i.names;
