@@ -5,3 +5,4 @@ pub mod Far
 pub mod Gather
 pub mod Inversion
 pub mod Prepared
+pub mod Admitted

@@ -3,7 +3,7 @@ use Rattle.std.specs.Prelude.{◌≡◌, ℕ, ◌+◌, ◌<◌, ◌≤◌, nat_l
 use Rattle.std.specs.List.{AllByRecursion}
 use Rattle.std.specs.declared.alloc.Global.{Global}
 use Rattle.mote_base.specs.Causes.{Rose}
-use Rattle.mote_base.specs.Files.{Named, Place, held, told, Holds}
+use Rattle.mote_base.specs.Files.{Named, held, told, Holds}
 use Rattle.domain_model.specs.declared.request.Kind.{Kind}
 use Rattle.domain_model.specs.Command.{Command, limit_of}
 use Rattle.mote_sim.specs.declared.reading.ReadStop.{ReadStop}
@@ -40,12 +40,10 @@ with_front front (Whole files) = Whole (front ++ files)
 with_front front (Longer number) = Longer number
 with_front front Missing = Missing
 
--- One file was read to its end and is within its limit, and no call failed. Where the shelf tells its files,
--- the bytes are that file's, and its place is the end of it.
-pub record IsWhole (files : Option (List Named)) (name : List ℕ) (limit before now : ℕ) (place : Option Place) (bytes : List ℕ) : Type 0 where
+-- One file was read to its end and is within its limit, and no call failed.
+pub record IsWhole (files : Option (List Named)) (name : List ℕ) (limit before now : ℕ) (bytes : List ℕ) : Type 0 where
   pub held : Holds files name
   pub all : (b : List ℕ) → told files name ≡ Some b → bytes ≡ b
-  pub ended : (b : List ℕ) → told files name ≡ Some b → place ≡ Some (record { file = b; at = length b })
   pub fits : length bytes ≤ limit
   pub kept : now ≡ before
 
@@ -61,9 +59,9 @@ StopsAt files name number limit before now Fault = Rose before now
 StopsAt files name number limit before now Memory = ⊤
 
 -- What the reading of one file has come to.
-abbrev pub Reads : Option (List Named) → List ℕ → ℕ → ℕ → ℕ → ℕ → Option Place → Result (Vec ℕ Global) ReadStop → Type 0
-Reads files name number limit before now place (Ok bytes) = IsWhole files name limit before now place bytes.items
-Reads files name number limit before now place (Err stop) = StopsAt files name number limit before now stop
+abbrev pub Reads : Option (List Named) → List ℕ → ℕ → ℕ → ℕ → ℕ → Result (Vec ℕ Global) ReadStop → Type 0
+Reads files name number limit before now (Ok bytes) = IsWhole files name limit before now bytes.items
+Reads files name number limit before now (Err stop) = StopsAt files name number limit before now stop
 
 abbrev pub bytes_of : List (Vec ℕ Global) → List (List ℕ)
 bytes_of files = map (λ v. v.items) files

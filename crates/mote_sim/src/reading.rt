@@ -57,7 +57,7 @@ fn read_file<F: Shelf>(
 ) -> Result<Vec<u8>, ReadStop>
     requires name { IsTrue (F.admits shelf.old name.now) }
     requires limit { limit < 2 ^ 32 }
-    ensures reads { Reads (F.files shelf.old) name.now number limit (F.faults shelf.old) (F.faults shelf.new) (F.place shelf.new) result }
+    ensures reads { Reads (F.files shelf.old) name.now number limit (F.faults shelf.old) (F.faults shelf.new) result }
     ensures later { F.faults shelf.old ≤ F.faults shelf.new }
     ensures files { F.files shelf.new ≡ F.files shelf.old }
     ensures names { F.admits shelf.new ≡ F.admits shelf.old }

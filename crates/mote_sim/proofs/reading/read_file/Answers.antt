@@ -9,10 +9,6 @@ returns-then-count-eq0-clause-reads g c =
     record {
       held = i.held;
       all = λ b tells. all_read b c.chunks.bytes.items (i.front b tells) ((c.in_ok-count.ensures.bytes _ (i.place b tells)).ends c.if-count-eq0.true (omega arith));
-      ended = λ b tells.
-          let all : c.chunks.bytes.items ≡ b = all_read b c.chunks.bytes.items (i.front b tells) ((c.in_ok-count.ensures.bytes _ (i.place b tells)).ends c.if-count-eq0.true (omega arith)) in
-          let at : length c.chunks.bytes.items + c.in_ok-count.count ≡ length b = omega (arith, c.if-count-eq0.true, ap length all) in
-          (c.in_ok-count.ensures.bytes _ (i.place b tells)).place ∙ ap (λ k. Some (record { file = b; at = k })) at;
       fits = omega arith;
       kept = c.in_ok-count.ensures.cause.kept ∙ i.kept;
     }
