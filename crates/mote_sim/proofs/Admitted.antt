@@ -1,5 +1,5 @@
 -- A shelf that admits every name may be asked for each file of each command.
-use Rattle.std.proofs.Common.{Bool, true, ℕ, refl, List, [], ◌∷◌, Option, Some, None}
+use Rattle.std.proofs.Common.{true, ℕ, refl, List, [], ◌∷◌, Option, Some, None}
 use Rattle.domain_model.specs.Command.{Command}
 use Rattle.mote_sim.specs.Reading.{Admits, AdmitsEach}
 

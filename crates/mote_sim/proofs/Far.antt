@@ -1,5 +1,5 @@
 -- A run whose lines were put up to a state.
-use Rattle.std.proofs.Common.{◌≡◌, ◌≢◌, ℕ, Bool, List, [], ◌∷◌, ◌++◌, ◌∙◌, refl, sym, ap, subst, append_assoc, append-nil, Option, Result, Ok, Err}
+use Rattle.std.proofs.Common.{◌≡◌, ◌≢◌, ℕ, Bool, List, [], ◌++◌, ◌∙◌, sym, ap, subst, append_assoc, append-nil, Option, Result, Ok, Err}
 use Rattle.std.specs.Prelude.{IsErr}
 use Rattle.std.proofs.lemmas.List.Concat.{flat_map-append}
 use Rattle.mote_base.specs.Written.{Wrote, Broke}
@@ -9,7 +9,7 @@ use Rattle.domain_model.specs.declared.line.TraceLine.{TraceLine}
 use Rattle.domain_model.specs.Laws.{LawfulTurn, LawfulRunFrom}
 use Rattle.domain_model.specs.State.{State}
 use Rattle.domain_model.specs.Text.{text, texts}
-use Rattle.domain_model.specs.Turn.{RunBy, Turn, RunFrom, over, more}
+use Rattle.domain_model.specs.Turn.{RunFrom, over, more}
 use Rattle.domain_model.proofs.RunLaws.{runs_end}
 use Rattle.domain_model.proofs.LawfulLaws.{runs_are_lawful}
 use Rattle.mote_sim.specs.Playing.{Played, Stopped, Plays}
@@ -46,7 +46,7 @@ pub far_stopped : {K : Type 0} {w : K → Option (List ℕ)} {f : K → ℕ} {l 
 far_stopped {w = w} {f = f} {l = l} {a = a} {c = c} far there lines live turn broke =
     let rest = runs_end there turn.good in
     let all : texts far.told ++ (texts lines ++ texts rest.0) ≡ texts (far.told ++ (lines ++ rest.0)) =
-        ap (λ t. texts far.told ++ t) (sym (flat_map-append text lines rest.0)) ∙ sym (flat_map-append text far.told (lines ++ rest.0)) in
+    ap (λ t. texts far.told ++ t) (sym (flat_map-append text lines rest.0)) ∙ sym (flat_map-append text far.told (lines ++ rest.0)) in
     record {
       lines = far.told ++ (lines ++ rest.0);
       run = far.goes_on (lines ++ rest.0) (more there lines rest.0 live turn (runs_are_lawful there rest.0 turn.good rest.1));

@@ -1,10 +1,10 @@
 -- The first file that is longer than its limit.
-use Rattle.std.proofs.Common.{◌≡◌, ◌∙◌, ℕ, ◌+◌, ◌<◌, ◌≤◌, refl, sym, ap, subst, suc, List, [], ◌∷◌, length, drop, get_or, Option, Some, None, if◌then◌else◌}
+use Rattle.std.proofs.Common.{◌≡◌, ◌∙◌, ℕ, ◌+◌, ◌<◌, refl, sym, ap, subst, suc, List, ◌∷◌, length, drop, get_or, Option, Some, None, if◌then◌else◌}
 use Rattle.std.specs.Prelude.{IsSome}
 use Rattle.std.proofs.Math.Seq.{drop-cons}
 use Rattle.std.proofs.lemmas.Bool.{lt-ltb}
 use Rattle.mote_base.specs.Causes.{Rose}
-use Rattle.mote_base.specs.Files.{Named, held, told}
+use Rattle.mote_base.specs.Files.{Named, held}
 use Rattle.domain_model.specs.declared.request.Kind.{Kind}
 use Rattle.domain_model.specs.Command.{limit_of}
 use Rattle.mote_sim.specs.declared.reading.ReadStop.{ReadStop}

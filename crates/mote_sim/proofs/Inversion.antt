@@ -1,5 +1,5 @@
 -- What an answer says of the files and of the words.
-use Rattle.std.proofs.Common.{◌≡◌, ◌∙◌, ℕ, ◌+◌, ◌≤◌, refl, sym, ap, subst, Bool, true, false, nat_lt, if◌then◌else◌, List, [], ◌∷◌, ◌++◌, length, Option, Some, None}
+use Rattle.std.proofs.Common.{◌≡◌, ◌∙◌, ℕ, ◌≤◌, refl, sym, ap, subst, Bool, true, false, nat_lt, if◌then◌else◌, List, [], ◌∷◌, ◌++◌, length, Option, Some, None}
 use Rattle.std.specs.Prelude.{IsSome}
 use Rattle.std.proofs.lemmas.Bool.{ltb-false}
 use Rattle.mote_base.specs.Files.{Named, held}
@@ -13,7 +13,6 @@ use Rattle.domain_model.specs.Command.{Command, limit_of}
 use Rattle.domain_model.specs.Image.{Module, prepared}
 use Rattle.domain_model.specs.Script.{events_of}
 use Rattle.domain_model.specs.State.{Input}
-use Rattle.domain_model.specs.Text.{texts}
 use Rattle.mote_sim.specs.Clauses.{WritesRun, Refuses, HasStatus}
 use Rattle.mote_sim.specs.Outcome.{Outcome, NoCommand, Unheld, TooLong, Unbuilt, Runs, outcome, outcome_of, outcome_by, outcome_with, Answers, MayFind, AnswersOver, usage_line}
 use Rattle.mote_sim.specs.Reading.{Gathered, Whole, Longer, Missing, gathered_from, gathered_file, with_first}
@@ -116,7 +115,7 @@ run_of fs (s ∷ i ∷ j ∷ names) text before new a written =
     let two = first_of 1 (limit_of Run 1) (held fs i) (gathered_from Run 2 fs (j ∷ names)) one.rest one.others_are in
     let three = first_of 2 (limit_of Run 2) (held fs j) (gathered_from Run 3 fs names) two.rest two.others_are in
     let all : w.files ≡ one.bytes ∷ two.bytes ∷ three.bytes ∷ three.rest =
-        one.files_are ∙ ap (λ xs. one.bytes ∷ xs) (two.files_are ∙ ap (λ xs. two.bytes ∷ xs) three.files_are) in
+    one.files_are ∙ ap (λ xs. one.bytes ∷ xs) (two.files_are ∙ ap (λ xs. two.bytes ∷ xs) three.files_are) in
     absurd (by_other w.files (one.bytes ∷ two.bytes ∷ three.bytes ∷ three.rest) text all refl w.answer)
 
 of_kind : (kind : Kind) (fs : List Named) (names : List (List ℕ)) (text before : List ℕ) (new : Option (List ℕ)) → Answers (outcome_of kind (gathered_from kind 0 fs names)) Done text → new ≡ Some (before ++ text) → WritesRun (Some (record { kind = kind; files = names })) fs before new

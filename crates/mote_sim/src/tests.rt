@@ -65,7 +65,13 @@ fn answers_are_the_worked_ones(rt: HostRuntime) -> Result<(), Fail> {
         ("run s i", "", SAYS, Status::Done, "0 end idle\n"),
         ("run", LOAD, SAYS, Status::Usage, "mote: usage\n"),
         ("run -s i", LOAD, SAYS, Status::Usage, "mote: usage\n"),
-        ("run s i", LOAD, UNBUILT, Status::Refused, "refused unbuilt\n"),
+        (
+            "run s i",
+            LOAD,
+            UNBUILT,
+            Status::Refused,
+            "refused unbuilt\n",
+        ),
         (
             "run s i",
             LOAD,
@@ -113,21 +119,37 @@ fn faults_are_answered_at_each_call(rt: HostRuntime) -> Result<(), Fail> {
     for (call, status, text) in reads {
         let mut shelf = shelf_with(alloc, LOAD.as_bytes(), SAYS, call)?;
         let mut out = MemSink::new(alloc, 1000, vec![in alloc]?)?;
-        assert_eq!(rt; answer(alloc, "run s i", &mut shelf, &mut out)?, status, "call {call}");
+        assert_eq!(rt;
+            answer(alloc, "run s i", &mut shelf, &mut out)?,
+            status,
+            "call {call}"
+        );
         assert_eq!(rt; out.bytes(), text.as_bytes());
     }
     let puts = [
         (0, Status::WriteFault, ""),
         (1, Status::WriteFault, "0 load 1 0 0000\n"),
         (2, Status::WriteFault, "0 load 1 0 0000\n0 run 1 0 0\n"),
-        (3, Status::WriteFault, "0 load 1 0 0000\n0 run 1 0 0\n1 say 1 65\n"),
-        (4, Status::WriteFault, "0 load 1 0 0000\n0 run 1 0 0\n1 say 1 65\n2 done 1\n"),
+        (
+            3,
+            Status::WriteFault,
+            "0 load 1 0 0000\n0 run 1 0 0\n1 say 1 65\n",
+        ),
+        (
+            4,
+            Status::WriteFault,
+            "0 load 1 0 0000\n0 run 1 0 0\n1 say 1 65\n2 done 1\n",
+        ),
         (5, Status::Done, SAID),
     ];
     for (put, status, text) in puts {
         let mut shelf = shelf_with(alloc, LOAD.as_bytes(), SAYS, NEVER)?;
         let mut out = MemSink::new(alloc, 1000, vec![in alloc; put]?)?;
-        assert_eq!(rt; answer(alloc, "run s i", &mut shelf, &mut out)?, status, "put {put}");
+        assert_eq!(rt;
+            answer(alloc, "run s i", &mut shelf, &mut out)?,
+            status,
+            "put {put}"
+        );
         assert_eq!(rt; out.bytes(), text.as_bytes());
     }
     Ok(())
@@ -146,7 +168,11 @@ fn sizes_are_tested_in_order(rt: HostRuntime) -> Result<(), Fail> {
         let image = vec![in alloc; 0u8; image]?;
         let mut shelf = shelf_with(alloc, &script, &image, NEVER)?;
         let mut out = MemSink::new(alloc, 1000, vec![in alloc]?)?;
-        assert_eq!(rt; answer(alloc, "run s i", &mut shelf, &mut out)?, Status::Refused, "{text}");
+        assert_eq!(rt;
+            answer(alloc, "run s i", &mut shelf, &mut out)?,
+            Status::Refused,
+            "{text}"
+        );
         assert_eq!(rt; out.bytes(), text.as_bytes());
     }
     Ok(())

@@ -41,11 +41,7 @@ fn hex_digit(value: u16) -> u8
     ensures { result ≡ hex_digit value }
 {
     let value = value as u8;
-    if value < 10 {
-        48 + value
-    } else {
-        87 + value
-    }
+    if value < 10 { 48 + value } else { 87 + value }
 }
 
 // Adds an address: four hexadecimal digits.

@@ -1,4 +1,4 @@
-use Rattle.std.proofs.Common.{◌≡◌, ◌∙◌, refl, sym, subst}
+use Rattle.std.proofs.Common.{refl, subst}
 use Rattle.mote_sim.specs.Outcome.{NoCommand, MayFind}
 use Rattle.mote_sim.proofs.Ends.{ends_map}
 use Rattle.mote_sim.proofs.answer.answer.Goals as goal

@@ -1,4 +1,4 @@
-use Rattle.std.proofs.Common.{◌≡◌, ◌∙◌, refl, sym}
+use Rattle.std.proofs.Common.{refl}
 use Rattle.mote_sim.specs.Outcome.{TooLong, outcome_by}
 use Rattle.mote_sim.specs.Reading.{Whole, Longer, bytes_of}
 use Rattle.mote_sim.proofs.Ends.{ends_map}

@@ -1,4 +1,4 @@
-use Rattle.std.proofs.Common.{◌≡◌, refl}
+use Rattle.std.proofs.Common.{refl}
 use Rattle.mote_base.proofs.Puts.{wrote_one, broke_one}
 use Rattle.mote_sim.proofs.Ends.{ends_wrote}
 use Rattle.mote_sim.proofs.answer.put_answer.Goals as goal

@@ -1,4 +1,4 @@
-use Rattle.std.proofs.Common.{◌≡◌, sym, subst}
+use Rattle.std.proofs.Common.{sym, subst}
 use Rattle.mote_sim.specs.Outcome.{Answers, outcome_with}
 use Rattle.mote_sim.specs.Trace.{input_of}
 use Rattle.mote_sim.proofs.Ends.{ends_as}

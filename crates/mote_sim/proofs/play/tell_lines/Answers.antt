@@ -1,4 +1,4 @@
-use Rattle.std.proofs.Common.{◌≡◌, ◌∙◌, ◌<◌, ◌+◌, suc, ℕ, refl, ap, List, ◌++◌, length, drop, get_or, add-one}
+use Rattle.std.proofs.Common.{◌≡◌, ◌∙◌, ◌<◌, ◌+◌, ℕ, refl, ap, List, ◌++◌, length, drop, get_or, add-one}
 use Rattle.std.proofs.Math.Seq.{drop-cons}
 use Rattle.mote_base.proofs.Puts.{puts_err}
 use Rattle.mote_base.proofs.SoFar.{so_far_more, so_far_broke}

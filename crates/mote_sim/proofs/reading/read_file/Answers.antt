@@ -1,4 +1,4 @@
-use Rattle.std.proofs.Common.{◌≡◌, ◌∙◌, ◌≤◌, ◌<◌, ◌+◌, refl, sym, ap, arith, Some, List, ℕ, length, take}
+use Rattle.std.proofs.Common.{◌∙◌, refl, sym, ap, arith, Some}
 use Rattle.std.proofs.lemmas.List.{length-take}
 use Rattle.mote_sim.proofs.Chunks.{length_more, front_more, all_read, longer}
 use Rattle.mote_sim.proofs.reading.read_file.Goals as goal
