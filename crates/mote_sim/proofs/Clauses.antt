@@ -1,0 +1,62 @@
+-- The clauses of the top call, each from what its ending says.
+use Rattle.std.proofs.Common.{◌≡◌, ◌⊎◌, inl, inr, ℕ, refl, subst, Bool, List, Option, Some, None}
+use Rattle.mote_base.specs.Causes.{Rose}
+use Rattle.mote_base.specs.Files.{Named}
+use Rattle.mote_base.specs.Written.{Grows}
+use Rattle.mote_base.specs.declared.fault.Status.{Status}
+use Rattle.mote_base.specs.declared.fault.Status.TheVariants.{Done, Usage, Refused, ReadFault, WriteFault, NoMemory}
+use Rattle.domain_model.specs.Command.{Command}
+use Rattle.mote_sim.specs.Clauses.{WritesRun, Refuses, HasStatus, WritesFront}
+use Rattle.mote_sim.specs.Ending.{Ends, Answered, CutOff, IsAnswer}
+use Rattle.mote_sim.specs.Outcome.{outcome, AnswersOver, usage_line}
+use Rattle.mote_sim.proofs.Inversion.{over_told, writes_run, usage_answers, refuses, has_status}
+
+pub headline : {K : Type 0} (w : K → Option (List ℕ)) (f : K → ℕ) (l : K → List ℕ → Bool → K → Type 0) (a b : K) (m n : ℕ) (files : Option (List Named)) (command : Option Command) (s : Status) → Ends w f l a b m n (AnswersOver files command) s → s ≡ Done → (fs : List Named) (before : List ℕ) → files ≡ Some fs → w a ≡ Some before → WritesRun command fs before (w b)
+headline w f l a b m n files command s ends is fs before told known =
+    let e = subst (λ r. Ends w f l a b m n (AnswersOver files command) r) is ends in
+    writes_run command fs e.text before (w b) (over_told files command fs Done e.text told e.answer) (e.wrote.grows before known)
+
+pub usage : {K : Type 0} (w : K → Option (List ℕ)) (f : K → ℕ) (l : K → List ℕ → Bool → K → Type 0) (a b : K) (m n : ℕ) (files : Option (List Named)) (command : Option Command) (s : Status) → Ends w f l a b m n (AnswersOver files command) s → s ≡ Usage → (command ≡ None) × Grows (w a) (w b) usage_line
+usage w f l a b m n files command s ends is =
+    let e = subst (λ r. Ends w f l a b m n (AnswersOver files command) r) is ends in
+    let u = usage_answers files command e.text e.answer in (u.0, subst (λ t. Grows (w a) (w b) t) u.1 e.wrote.grows)
+
+pub refused : {K : Type 0} (w : K → Option (List ℕ)) (f : K → ℕ) (l : K → List ℕ → Bool → K → Type 0) (a b : K) (m n : ℕ) (files : Option (List Named)) (command : Option Command) (s : Status) → Ends w f l a b m n (AnswersOver files command) s → s ≡ Refused → (fs : List Named) → files ≡ Some fs → Refuses (outcome command fs) (w a) (w b)
+refused w f l a b m n files command s ends is fs told =
+    let e = subst (λ r. Ends w f l a b m n (AnswersOver files command) r) is ends in
+    refuses (outcome command fs) e.text (w a) (w b) (over_told files command fs Refused e.text told e.answer) e.wrote.grows
+
+status_of : {K : Type 0} (w : K → Option (List ℕ)) (f : K → ℕ) (l : K → List ℕ → Bool → K → Type 0) (a b : K) (m n : ℕ) (files : Option (List Named)) (command : Option Command) (s : Status) (fs : List Named) → files ≡ Some fs → Answered w f l a b m n (AnswersOver files command) s → HasStatus (outcome command fs) s ⊎ (s ≡ NoMemory)
+status_of w f l a b m n files command s fs told e = inl (has_status (outcome command fs) s e.text (over_told files command fs s e.text told e.answer))
+
+pub complete : {K : Type 0} (w : K → Option (List ℕ)) (f : K → ℕ) (l : K → List ℕ → Bool → K → Type 0) (a b : K) (m n : ℕ) (files : Option (List Named)) (command : Option Command) (s : Status) → Ends w f l a b m n (AnswersOver files command) s → (fs : List Named) → files ≡ Some fs → ¬ Rose m n → ¬ Rose (f a) (f b) → HasStatus (outcome command fs) s ⊎ (s ≡ NoMemory)
+complete w f l a b m n files command Done e fs told no_read no_write = status_of w f l a b m n files command Done fs told e
+complete w f l a b m n files command Usage e fs told no_read no_write = status_of w f l a b m n files command Usage fs told e
+complete w f l a b m n files command Refused e fs told no_read no_write = status_of w f l a b m n files command Refused fs told e
+complete w f l a b m n files command ReadFault e fs told no_read no_write = absurd (no_read e.rose)
+complete w f l a b m n files command WriteFault e fs told no_read no_write = absurd (no_write e.broke.rose)
+complete w f l a b m n files command NoMemory e fs told no_read no_write = inr refl
+
+pub answered : {K : Type 0} (w : K → Option (List ℕ)) (f : K → ℕ) (l : K → List ℕ → Bool → K → Type 0) (a b : K) (m n : ℕ) (A : Status → List ℕ → Type 0) (s : Status) → Ends w f l a b m n A s → IsAnswer s → Answered w f l a b m n A s
+answered w f l a b m n A Done e is = e
+answered w f l a b m n A Usage e is = e
+answered w f l a b m n A Refused e is = e
+answered w f l a b m n A ReadFault e is = absurd is
+answered w f l a b m n A WriteFault e is = absurd is
+answered w f l a b m n A NoMemory e is = absurd is
+
+pub cut : {K : Type 0} (w : K → Option (List ℕ)) (f : K → ℕ) (l : K → List ℕ → Bool → K → Type 0) (a b : K) (m n : ℕ) (A : Status → List ℕ → Type 0) (s : Status) → Ends w f l a b m n A s → s ≡ WriteFault → CutOff w f l a b m n A
+cut w f l a b m n A s ends is = subst (λ r. Ends w f l a b m n A r) is ends
+
+pub front : {K : Type 0} (w : K → Option (List ℕ)) (f : K → ℕ) (l : K → List ℕ → Bool → K → Type 0) (a b : K) (m n : ℕ) (files : Option (List Named)) (command : Option Command) (s : Status) → Ends w f l a b m n (AnswersOver files command) s → s ≡ WriteFault → (fs : List Named) (before : List ℕ) → files ≡ Some fs → w a ≡ Some before → WritesFront (outcome command fs) before (w b)
+front w f l a b m n files command s ends is fs before told known =
+    let e = cut w f l a b m n (AnswersOver files command) s ends is in
+    let part = e.broke.grows before known in
+    record {
+      status = e.status;
+      text = e.text;
+      answer = over_told files command fs e.status e.text told e.answer;
+      front = part.0;
+      is_front = part.2;
+      written = part.1;
+    }

@@ -1,0 +1,23 @@
+use Rattle.mote_sim.proofs.Clauses.{headline, usage, refused, complete, answered, front, cut}
+use Rattle.mote_sim.proofs.answer.mote_main.Goals as goal
+
+pub returns-clause-headline : goal.returns-clause-headline
+returns-clause-headline g c = headline _ _ _ _ _ _ _ _ _ _ c.answer.ensures.ends
+
+pub returns-clause-usage : goal.returns-clause-usage
+returns-clause-usage g c = usage _ _ _ _ _ _ _ _ _ _ c.answer.ensures.ends
+
+pub returns-clause-refused : goal.returns-clause-refused
+returns-clause-refused g c = refused _ _ _ _ _ _ _ _ _ _ c.answer.ensures.ends
+
+pub returns-clause-complete : goal.returns-clause-complete
+returns-clause-complete g c = complete _ _ _ _ _ _ _ _ _ _ c.answer.ensures.ends
+
+pub returns-clause-answered : goal.returns-clause-answered
+returns-clause-answered g c = answered _ _ _ _ _ _ _ _ _ c.answer.ensures.ends
+
+pub returns-clause-front : goal.returns-clause-front
+returns-clause-front g c = front _ _ _ _ _ _ _ _ _ _ c.answer.ensures.ends
+
+pub returns-clause-cut : goal.returns-clause-cut
+returns-clause-cut g c = cut _ _ _ _ _ _ _ _ _ c.answer.ensures.ends

@@ -1,0 +1,11 @@
+use Rattle.std.proofs.Common.{◌≡◌, ◌∙◌, subst}
+use Rattle.domain_model.specs.Text.{text}
+use Rattle.mote_base.specs.Written.{Puts}
+use Rattle.mote_base.proofs.Puts.{puts_one}
+use Rattle.mote_sim.proofs.play.tell_line.Goals as goal
+
+pub returns : goal.returns
+returns g c =
+    let d = c.put.ensures in
+    let same : c.as_slice.result.now ≡ text c.args.told.now = c.as_slice.ensures.value ∙ c.put_line.ensures in
+    subst (λ t. Puts g.K.Sink.written g.K.Sink.faults g.K.Sink.leads c.args.out.now c.put.new.self t c.put.result) same (puts_one d.ok d.partly d.cause d.leads)

@@ -1,0 +1,31 @@
+-- What putting the lines of a run comes to.
+use Rattle.std.specs.Prelude.{◌≡◌, ℕ, Bool, List, Option, Some, None, Result, OnOk, OnErr, ⊤}
+use Rattle.mote_base.specs.Written.{Wrote, Broke}
+use Rattle.domain_model.specs.declared.line.TraceLine.{TraceLine}
+use Rattle.domain_model.specs.Good.{Good}
+use Rattle.domain_model.specs.Laws.{LawfulRunFrom}
+use Rattle.domain_model.specs.State.{State, Input, start}
+use Rattle.domain_model.specs.Text.{texts}
+
+-- The lines of a lawful run from that state were put.
+pub record Played {K : Type 0} (written : K → Option (List ℕ)) (faults : K → ℕ) (leads : K → List ℕ → Bool → K → Type 0) (old new : K) (first : State) : Type 0 where
+  pub lines : List TraceLine
+  pub run : LawfulRunFrom first lines
+  pub wrote : Wrote written faults leads old new (texts lines)
+
+-- A put failed among the lines of a lawful run from that state.
+pub record Stopped {K : Type 0} (written : K → Option (List ℕ)) (faults : K → ℕ) (leads : K → List ℕ → Bool → K → Type 0) (old new : K) (first : State) : Type 0 where
+  pub lines : List TraceLine
+  pub run : LawfulRunFrom first lines
+  pub broke : Broke written faults leads old new (texts lines)
+
+pub record Plays {K T E : Type 0} (written : K → Option (List ℕ)) (faults : K → ℕ) (leads : K → List ℕ → Bool → K → Type 0) (old new : K) (first : State) (result : Result T E) : Type 0 where
+  pub played : OnOk result (Played written faults leads old new first)
+  pub stopped : OnErr result (Stopped written faults leads old new first)
+
+-- There is a mote exactly where there is an input, and it stands at the start of a run of it.
+abbrev pub StandsAt : Option State → Option Input → Type 0
+StandsAt None None = ⊤
+StandsAt None (Some i) = ⊥
+StandsAt (Some s) None = ⊥
+StandsAt (Some s) (Some i) = (s ≡ start i) × Good s

@@ -1,0 +1,15 @@
+-- What a request of the code means.
+use Rattle.std.specs.Prelude.{◌≡◌, length, Option, Some, None, ⊤}
+use Rattle.domain_model.specs.Command.{Command, operands}
+use Rattle.mote_sim.specs.declared.request.Request.{Request}
+use Rattle.mote_sim.specs.declared.request.Request.TheVariants as request
+
+-- the command that it is
+abbrev pub asked : Request → Option Command
+asked request.Usage = None
+asked (request.Command kind files) = Some (record { kind = kind; files = files.now })
+
+-- A command has as many files as its kind takes.
+abbrev pub HasItsOperands : Request → Type 0
+HasItsOperands request.Usage = ⊤
+HasItsOperands (request.Command kind files) = length files.now ≡ operands kind

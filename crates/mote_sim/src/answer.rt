@@ -1,0 +1,189 @@
+//! The top call.
+ghost use Rattle.std.specs.Prelude.{◌≡◌, ◌≤◌, ◌⊎◌, IfOk, length, Some, None, List, ℕ};
+ghost use Rattle.mote_base.specs.Causes.{Rose};
+ghost use Rattle.mote_base.specs.Files.{Named};
+ghost use Rattle.mote_base.specs.Written.{Grows};
+ghost use Rattle.domain_model.specs.Command.{command_of, operands};
+ghost use Rattle.mote_sim.specs.Clauses.{WritesRun, Refuses, HasStatus, WritesFront};
+ghost use Rattle.mote_sim.specs.Ending.{Ends, IsAnswer, Answered, CutOff};
+ghost use Rattle.mote_sim.specs.Outcome.{NoCommand, TooLong, Unbuilt, Answers, AnswersOver, outcome, outcome_by, outcome_with, usage_line, size_line};
+ghost use Rattle.mote_sim.specs.Playing.{StandsAt};
+ghost use Rattle.mote_sim.specs.Reading.{Admits, AdmitsEach, bytes_of};
+ghost use Rattle.mote_sim.specs.Trace.{input_of};
+
+use crate::play::play;
+use crate::reading::{ReadStop, read_files};
+use crate::request::{Request, request_of};
+use crate::trace_text::{add_number, add_text};
+use arrayvec::ArrayVec;
+use domain_model::{Kind, Lines};
+use mote_base::{Line, NoMemory, Shelf, Sink, Status, Word};
+use mote_core::{Limits, Mote, Ready, parse_script};
+use mote_layout::{DEFAULT_HANDLER_UNITS, DEFAULT_UNITS};
+use std::alloc::Global;
+
+// Puts a line that is the whole output.
+fn put_answer<K: Sink>(out: &mut K, line: &[u8], status: Status) -> Status
+    requires { IsAnswer status }
+    ensures ends { Ends K.written K.faults K.leads out.old out.new 0 0 (λ s text. (s ≡ status) × (text ≡ line.now)) result }
+    ensures either { (result ≡ status) ⊎ (result ≡ Status.WriteFault) }
+{
+    match out.put(line) {
+        Ok(()) => status,
+        Err(_) => Status::WriteFault,
+    }
+}
+
+// Puts the line on a file that is too long.
+fn put_size<K: Sink>(out: &mut K, number: usize) -> Status
+    ensures { Ends K.written K.faults K.leads out.old out.new 0 0 (Answers (TooLong number)) result }
+{
+    let mut line: Line = ArrayVec::new();
+    add_text(&mut line, b"refused size ");
+    add_number(&mut line, number as u64);
+    add_text(&mut line, b"\n");
+    put_answer(out, line.as_slice(), Status::Refused)
+}
+
+// A mote at the start of the run of a script and an image, where both are built.
+fn prepare(alloc: Global, script: &[u8], image: &[u8]) -> Result<Option<Mote>, NoMemory>
+    ensures { IfOk result (λ found. StandsAt found (input_of script.now image.now)) }
+{
+    let script = match parse_script(alloc, script)? {
+        None => return Ok(None),
+        Some(script) => script,
+    };
+    let image = Ready::new(alloc, image)?;
+    if !image.can_be_loaded() {
+        return Ok(None);
+    }
+    let images = vec![in alloc; image]?;
+    let limits = Limits {
+        units: DEFAULT_UNITS,
+        handler: DEFAULT_HANDLER_UNITS,
+    };
+    let mote = Mote::new(alloc, images, script, limits)?;
+    Ok(Some(mote))
+}
+
+// Runs a script over an image. All memory is taken before the first line is put.
+fn run<K: Sink>(alloc: Global, script: &[u8], image: &[u8], out: &mut K) -> Status
+    ensures { Ends K.written K.faults K.leads out.old out.new 0 0 (Answers (outcome_with (input_of script.now image.now))) result }
+{
+    let mut mote = match prepare(alloc, script, image) {
+        Err(_) => return Status::NoMemory,
+        Ok(None) => return put_answer(out, b"refused unbuilt\n", Status::Refused),
+        Ok(Some(mote)) => mote,
+    };
+    let mut lines = match Lines::new(alloc) {
+        Err(_) => return Status::NoMemory,
+        Ok(lines) => lines,
+    };
+    match play(&mut mote, &mut lines, out) {
+        Ok(()) => Status::Done,
+        Err(_) => Status::WriteFault,
+    }
+}
+
+// Answers a command whose files have been read.
+fn perform<K: Sink>(alloc: Global, kind: Kind, files: &[Vec<u8>], out: &mut K) -> Status
+    requires { length files.now ≡ operands kind }
+    ensures { Ends K.written K.faults K.leads out.old out.new 0 0 (Answers (outcome_by kind (bytes_of files.now))) result }
+{
+    match kind {
+        Kind::Run => match files {
+            [script, image] => run(alloc, script, image, out),
+            _ => unreachable!(),
+        },
+    }
+}
+
+// Reads the files of a command and answers it.
+fn answer_command<F: Shelf, K: Sink>(
+    alloc: Global,
+    kind: Kind,
+    names: &[Word],
+    shelf: &mut F,
+    out: &mut K,
+) -> Status
+    requires names { AdmitsEach (F.admits shelf.old) names.now }
+    requires operands { length names.now ≡ operands kind }
+    ensures { Ends K.written K.faults K.leads out.old out.new (F.faults shelf.old) (F.faults shelf.new)
+        (AnswersOver (F.files shelf.old) (Some (record { kind = kind; files = names.now }))) result }
+{
+    match read_files(alloc, shelf, kind, names) {
+        Ok(files) => perform(alloc, kind, &files, out),
+        Err(ReadStop::TooLong(number)) => put_size(out, number),
+        Err(ReadStop::Fault) => Status::ReadFault,
+        Err(ReadStop::Memory) => Status::NoMemory,
+    }
+}
+
+// The whole of the top call, by its ending.
+fn answer<F: Shelf, K: Sink>(alloc: Global, words: &[Word], shelf: &mut F, out: &mut K) -> Status
+    requires { Admits (F.admits shelf.old) (command_of words.now) }
+    ensures ends { Ends K.written K.faults K.leads out.old out.new (F.faults shelf.old) (F.faults shelf.new)
+        (AnswersOver (F.files shelf.old) (command_of words.now)) result }
+    ensures no_command { command_of words.now ≡ None → (result ≡ Status.Usage) ⊎ (result ≡ Status.WriteFault) }
+{
+    match request_of(words) {
+        Request::Usage => put_answer(out, b"mote: usage\n", Status::Usage),
+        Request::Command(kind, names) => answer_command(alloc, kind, names, shelf, out),
+    }
+}
+
+/// Does all that the program does: reads the words, reads the files that they name, and writes the answer.
+///
+/// The words are those behind the program's name. `run SCRIPT IMAGE` runs a script over an image and writes
+/// the trace. All memory is taken before the first byte is written.
+pub fn mote_main<F: Shelf, K: Sink>(
+    alloc: Global,
+    words: &[Word],
+    shelf: &mut F,
+    out: &mut K,
+) -> Status
+    // The shelf may be asked for the files of the command.
+    requires { Admits (F.admits shelf.old) (command_of words.now) }
+
+    // Done: every file was read whole, and the bytes added are the trace of a lawful run of them.
+    ensures headline { result ≡ Status.Done → (fs : List Named) (before : List ℕ) →
+        F.files shelf.old ≡ Some fs → K.written out.old ≡ Some before →
+        WritesRun (command_of words.now) fs before (K.written out.new) }
+
+    // Usage: the words are no command. No command has another answer, but where the put of its line fails.
+    ensures usage { result ≡ Status.Usage → (command_of words.now ≡ None) × Grows (K.written out.old) (K.written out.new) usage_line }
+    ensures no_command { command_of words.now ≡ None → (result ≡ Status.Usage) ⊎ (result ≡ Status.WriteFault) }
+
+    // Refused: a file is longer than its limit, or the script or the image is not built.
+    ensures refused { result ≡ Status.Refused → (fs : List Named) → F.files shelf.old ≡ Some fs →
+        Refuses (outcome (command_of words.now) fs) (K.written out.old) (K.written out.new) }
+
+    // Where no call failed the status is the defined one, unless memory ran out.
+    ensures complete { (fs : List Named) → F.files shelf.old ≡ Some fs →
+        ¬ Rose (F.faults shelf.old) (F.faults shelf.new) → ¬ Rose (K.faults out.old) (K.faults out.new) →
+        HasStatus (outcome (command_of words.now) fs) result ⊎ (result ≡ Status.NoMemory) }
+
+    // Done, Usage and Refused wrote a whole output, and no call failed; also where the shelf tells no files.
+    ensures answered { IsAnswer result → Answered K.written K.faults K.leads out.old out.new (F.faults shelf.old) (F.faults shelf.new)
+        (AnswersOver (F.files shelf.old) (command_of words.now)) result }
+    ensures calm { IsAnswer result → (F.faults shelf.new ≡ F.faults shelf.old) × (K.faults out.new ≡ K.faults out.old) }
+
+    // A fault of reading has its cause, and nothing was put.
+    ensures read_fault { result ≡ Status.ReadFault → Rose (F.faults shelf.old) (F.faults shelf.new) × (out.new ≡ out.old) }
+
+    // A fault of writing has its cause, a front of an output that answers was written, and no put follows.
+    ensures write_fault { result ≡ Status.WriteFault → Rose (K.faults out.old) (K.faults out.new) × (F.faults shelf.new ≡ F.faults shelf.old) }
+    ensures front { result ≡ Status.WriteFault → (fs : List Named) (before : List ℕ) →
+        F.files shelf.old ≡ Some fs → K.written out.old ≡ Some before →
+        WritesFront (outcome (command_of words.now) fs) before (K.written out.new) }
+    ensures cut { result ≡ Status.WriteFault → CutOff K.written K.faults K.leads out.old out.new (F.faults shelf.old) (F.faults shelf.new)
+        (AnswersOver (F.files shelf.old) (command_of words.now)) }
+
+    // Where memory ran out nothing was put.
+    ensures no_memory { result ≡ Status.NoMemory → out.new ≡ out.old }
+
+    // No count of faults falls.
+    ensures later { (F.faults shelf.old ≤ F.faults shelf.new) × (K.faults out.old ≤ K.faults out.new) }
+{
+    answer(alloc, words, shelf, out)
+}
