@@ -1,0 +1,2 @@
+-- Which provided entry a subscription is bound to.
+use Rattle.std.specs.Prelude.{ℕ}
