@@ -18,13 +18,13 @@ regroup {T} front entry (Ok x) = ap (λ (list : List T). Ok (list, x.1)) (simp a
 regroup front entry (Err e) = refl
 
 pub provided_goes_on : (front : List Provided) (count i place next least : ℕ) (bytes : List ℕ) (entry : Provided) (after : List ℕ) (total : Entries Provided)
-    → i < count → next ≡ place + 8 → provided_one place least bytes ≡ Ok (entry, after)
+    → i < count → next ≡ place + 7 → provided_one place least bytes ≡ Ok (entry, after)
     → with_front front (provided_at (count - i) place least bytes) ≡ total → with_front (front ++ entry ∷ []) (provided_at (count - (i + 1)) next (entry.func + 1) after) ≡ total
 unfolding provided_at
 provided_goes_on front count i place next least bytes entry after total below step one so_far =
     let more : count - i ≡ suc (count - (i + 1)) = omega arith in
-    let same : with_front front (provided_at (count - i) place least bytes) ≡ with_front (front ++ entry ∷ []) (provided_at (count - (i + 1)) (place + 8) (entry.func + 1) after) =
-        rw (more, one) (regroup front entry (provided_at (count - (i + 1)) (place + 8) (entry.func + 1) after)) in
+    let same : with_front front (provided_at (count - i) place least bytes) ≡ with_front (front ++ entry ∷ []) (provided_at (count - (i + 1)) (place + 7) (entry.func + 1) after) =
+        rw (more, one) (regroup front entry (provided_at (count - (i + 1)) (place + 7) (entry.func + 1) after)) in
     rw step (sym same ∙ so_far)
 
 pub provided_ends : (e : ImageError) (front : List Provided) (count i place least : ℕ) (bytes : List ℕ) (total : Entries Provided)

@@ -85,7 +85,7 @@ unfoldable pub provided_at : ℕ → ℕ → ℕ → List ℕ → Result (List P
 provided_at zero place least bytes = Ok ([], bytes)
 provided_at (suc n) place least bytes = do
   first ← provided_one place least bytes
-  others ← provided_at n (place + 8) (first.0.func + 1) first.1
+  others ← provided_at n (place + 7) (first.0.func + 1) first.1
   Ok (first.0 ∷ others.0, others.1)
 
 unfoldable pub subscribed_one : ℕ → List ℕ → Result (Subscribed × List ℕ) ImageError
@@ -113,8 +113,8 @@ image_of file = do
   settings ← settings_at opened
   counts ← counts_at settings.1
   provided ← provided_at counts.0.provided 15 0 counts.1
-  subscribed ← subscribed_at counts.0.subscribed (15 + 8 * counts.0.provided) provided.1
-  code ← code_at counts.0.words (15 + 8 * counts.0.provided + 6 * counts.0.subscribed) subscribed.1
+  subscribed ← subscribed_at counts.0.subscribed (15 + 7 * counts.0.provided) provided.1
+  code ← code_at counts.0.words (15 + 7 * counts.0.provided + 6 * counts.0.subscribed) subscribed.1
   Ok (record {
     face = record { id = settings.0.id; provided = record { items = provided.0 }; subscribed = record { items = subscribed.0 } };
     rewritten = settings.0.rewritten;

@@ -7,13 +7,17 @@
 mod error;
 mod face;
 mod field;
+mod laws;
 mod parts;
 mod reading;
+#[cfg(test)]
+mod tests;
 mod view;
 mod writing;
 
 pub use error::ImageError;
 pub use face::{Face, Provided, Subscribed};
+pub use laws::one_reading;
 pub use reading::parse;
 pub use view::ImageView;
 pub use writing::write_image;

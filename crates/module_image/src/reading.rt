@@ -12,7 +12,7 @@ use arrayvec::ArrayVec;
 /// The place of the first entry.
 const ENTRIES: u32 = 15;
 /// The bytes of a provided entry.
-const PROVIDED_BYTES: u32 = 8;
+const PROVIDED_BYTES: u32 = 7;
 /// The bytes of a subscribed entry.
 const SUBSCRIBED_BYTES: u32 = 6;
 

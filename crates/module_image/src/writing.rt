@@ -24,15 +24,28 @@ pub fn write_image(
 {
     let mut file = Vec::new(alloc);
     file.extend_from_slice(b"SOSM\x01")?;
-    file.extend_from_slice(&[face.id, u8::from(rewritten)])?;
-    put_word(&mut file, state_size)?;
-    put_word(&mut file, handler)?;
-    file.extend_from_slice(&[face.provided.len() as u8, face.subscribed.len() as u8])?;
-    put_word(&mut file, code.len() as u16)?;
+    put_settings(&mut file, face.id, rewritten, state_size, handler)?;
+    put_counts(&mut file, face.provided.len() as u8, face.subscribed.len() as u8, code.len() as u16)?;
     put_provided(&mut file, &face.provided)?;
     put_subscribed(&mut file, &face.subscribed)?;
     put_words(&mut file, code)?;
     Ok(file)
+}
+
+fn put_settings(file: &mut Vec<u8>, id: u8, rewritten: bool, state_size: u16, handler: u16) -> Result<(), NoMemory>
+    ensures { OnOk result (file.new.items ≡ file.old.items ++ settings id rewritten state_size handler) }
+{
+    let flags = if rewritten { 1 } else { 0 };
+    file.extend_from_slice(&[id, flags])?;
+    put_word(file, state_size)?;
+    put_word(file, handler)
+}
+
+fn put_counts(file: &mut Vec<u8>, provided: u8, subscribed: u8, words: u16) -> Result<(), NoMemory>
+    ensures { OnOk result (file.new.items ≡ file.old.items ++ counts provided subscribed words) }
+{
+    file.extend_from_slice(&[provided, subscribed])?;
+    put_word(file, words)
 }
 
 fn put_word(file: &mut Vec<u8>, n: u16) -> Result<(), NoMemory>

@@ -12,7 +12,7 @@ returns-in_err-entry c =
 pub loop-preserved : goal.loop-preserved
 loop-preserved c =
     record {
-      so_far = rw (c.push.ensures.items, c.from-least.ensures) (provided_goes_on c.loop.list.items c.args.count c.loop.counter c.loop.at (c.loop.at + 8) c.loop.least c.loop.rest.now c.in_ok-entry.entry c.in_ok-entry.after.now (provided_at c.args.count 15 0 c.args.bytes.now) c.loop-test.true refl c.in_ok-entry.ensures c.loop.invariant.so_far);
+      so_far = rw (c.push.ensures.items, c.from-least.ensures) (provided_goes_on c.loop.list.items c.args.count c.loop.counter c.loop.at (c.loop.at + 7) c.loop.least c.loop.rest.now c.in_ok-entry.entry c.in_ok-entry.after.now (provided_at c.args.count 15 0 c.args.bytes.now) c.loop-test.true refl c.in_ok-entry.ensures c.loop.invariant.so_far);
       held = omega (arith, c.push.ensures.len);
       place = omega arith;
       bound = omega arith;

@@ -1,0 +1,9 @@
+use Rattle.std.proofs.Common.{arith}
+use Rattle.module_image.proofs.Images.{is_image, image_read}
+use Rattle.module_image.proofs.reading.parse.Goals as goal
+
+pub returns-clause-image : goal.returns-clause-image
+returns-clause-image c = is_image c.args.file.now c.read.result (λ i. omega (arith, c.type_inv.file i)) c.read.ensures
+
+pub returns-clause-only : goal.returns-clause-only
+returns-clause-only c = λ contents image. image_read c.args.file.now c.read.result contents c.read.ensures image
