@@ -1,12 +1,12 @@
 -- A field that is read is the field that was written, and what was written is read again.
-use Rattle.std.proofs.Common.{◌≡◌, ℕ, zero, suc, ◌+◌, ◌*◌, ◌^◌, ◌<◌, ◌≤◌, ◌||◌, Bool, true, false, cond, ltb, eqb, List, [], ◌∷◌, ◌++◌, length, get_or, take, drop, Result, Ok, Err, refl, sym, ap, subst, ◌∙◌, append_assoc, arith}
+use Rattle.std.proofs.Common.{◌≡◌, ℕ, suc, ◌+◌, ◌*◌, ◌<◌, ◌≤◌, ◌||◌, Bool, true, false, cond, ltb, eqb, List, [], ◌∷◌, ◌++◌, length, get_or, take, drop, Result, Ok, Err, refl, sym, ap, subst, ◌∙◌, append_assoc, arith}
 use Rattle.std.proofs.lemmas.Bool.{ltb-false, le-ltb, eqb-true}
-use Rattle.std.proofs.lemmas.List.{take_at, drop_at, take-append-drop, length-append, get_or-drop}
+use Rattle.std.proofs.lemmas.List.{take-append-drop, length-append, get_or-drop}
 use Rattle.std.specs.Cmp.Lexicographic.{pointwise, same_text}
 use Rattle.byteorder.specs.Endian.{little_number}
 use Rattle.module_image.specs.declared.error.ImageError.{ImageError}
-use Rattle.module_image.specs.declared.error.ImageError.TheVariants.{Short, Magic, Version, Field, Long}
-use Rattle.module_image.specs.Contents.{IsWord, IsPrintable, IsPrototype}
+use Rattle.module_image.specs.declared.error.ImageError.TheVariants.{Short, Magic, Version, Field}
+use Rattle.module_image.specs.Contents.{IsWord, IsPrototype}
 use Rattle.module_image.specs.Spelling.{word, opening}
 use Rattle.module_image.specs.Reading.{◌>>=◌, byte_at, number_at, prototype_at, magic_at, version_at, opening_at}
 

@@ -1,9 +1,8 @@
 -- What is read is an image, and an image is read.
-use Rattle.std.proofs.Common.{◌≡◌, ℕ, zero, suc, ◌+◌, ◌*◌, ◌<◌, ◌≤◌, cond, ltb, false, List, [], ◌∷◌, ◌++◌, length, Result, Ok, Err, refl, sym, ap, subst, ◌∙◌, append_assoc, arith}
+use Rattle.std.proofs.Common.{◌≡◌, ℕ, zero, suc, ◌+◌, ◌*◌, cond, ltb, false, List, [], ◌∷◌, ◌++◌, length, Result, Ok, Err, refl, sym, ap, subst, ◌∙◌, arith}
 use Rattle.std.specs.Prelude.{IfOk}
 use Rattle.std.specs.List.{flat_map, AllByRecursion}
 use Rattle.std.proofs.lemmas.Bool.{ltb-false, le-ltb}
-use Rattle.std.proofs.lemmas.List.{append-nil, length-append}
 use Rattle.std.proofs.lemmas.List.Concat.{flat_map-cons}
 use Rattle.mote_base.specs.Words.{words_of}
 use Rattle.module_image.specs.declared.error.ImageError.{ImageError}
@@ -12,10 +11,10 @@ use Rattle.module_image.specs.declared.face.Provided.{Provided}
 use Rattle.module_image.specs.declared.face.Subscribed.{Subscribed}
 use Rattle.module_image.specs.declared.parts.Settings.{Settings}
 use Rattle.module_image.specs.declared.parts.Counts.{Counts}
-use Rattle.module_image.specs.Contents.{Contents, IsWord, FaceRules, Rules}
-use Rattle.module_image.specs.Spelling.{word, opening, settings, counts, provided_entry, subscribed_entry, spelling, Image}
+use Rattle.module_image.specs.Contents.{Contents, IsWord, Rules}
+use Rattle.module_image.specs.Spelling.{word, opening, counts, provided_entry, subscribed_entry, spelling, Image}
 use Rattle.module_image.specs.Reading.{◌>>=◌, opening_at, settings_at, counts_at, provided_at, subscribed_at, code_at, image_of}
-use Rattle.module_image.proofs.Fields.{IsBytes, bind_ok, guard_ok, ok_is, Takes, Takes-then, word_back, word_again, opening_takes, opening_again}
+use Rattle.module_image.proofs.Fields.{IsBytes, bind_ok, guard_ok, ok_is, word_back, opening_takes, opening_again}
 use Rattle.module_image.proofs.PartLemmas.{settings_text, settings_takes, settings_again, counts_text, counts_takes, counts_again, provided_take, provided_again, subscribed_take, subscribed_again}
 
 -- ---- the code
@@ -73,7 +72,7 @@ joined s ps ss code = record {
   rewritten = s.rewritten;
   state_size = s.state_size;
   handler = s.handler;
-  code = code
+  code = code;
 }
 
 abbrev with_code : Settings → Counts → List Provided → List Subscribed × List ℕ → Result Contents ImageError
@@ -110,13 +109,13 @@ image_takes file c fits e =
     let tu = subscribed_take n.0.0.subscribed (15 + 7 * n.0.0.provided) ps.0.1 ss.0 tp.0.rest_fits ss.1 in
     let tk = code_takes n.0.0.words (15 + 7 * n.0.0.provided + 6 * n.0.0.subscribed) ss.0.1 k.0 tu.0.rest_fits k.1 in
     let lists : n.0.1 ≡ flat_map provided_entry ps.0.0 ++ (flat_map subscribed_entry ss.0.0 ++ flat_map word k.0) =
-        tp.0.parts ∙ ap (λ (t : List ℕ). flat_map provided_entry ps.0.0 ++ t) (tu.0.parts ∙ ap (λ (t : List ℕ). flat_map subscribed_entry ss.0.0 ++ t) tk.parts) in
+    tp.0.parts ∙ ap (λ (t : List ℕ). flat_map provided_entry ps.0.0 ++ t) (tu.0.parts ∙ ap (λ (t : List ℕ). flat_map subscribed_entry ss.0.0 ++ t) tk.parts) in
     let from_counts : s.0.1 ≡ counts (length ps.0.0) (length ss.0.0) (length k.0) ++ (flat_map provided_entry ps.0.0 ++ (flat_map subscribed_entry ss.0.0 ++ flat_map word k.0)) =
-        tn.0.parts
-        ∙ counted n.0.0.provided n.0.0.subscribed n.0.0.words (length ps.0.0) (length ss.0.0) (length k.0) n.0.1 tp.1 tu.1 tk.count
-        ∙ ap (λ (t : List ℕ). counts (length ps.0.0) (length ss.0.0) (length k.0) ++ t) lists in
+    tn.0.parts
+    ∙ counted n.0.0.provided n.0.0.subscribed n.0.0.words (length ps.0.0) (length ss.0.0) (length k.0) n.0.1 tp.1 tu.1 tk.count
+    ∙ ap (λ (t : List ℕ). counts (length ps.0.0) (length ss.0.0) (length k.0) ++ t) lists in
     let whole : file ≡ spelling (joined s.0.0 ps.0.0 ss.0.0 k.0) =
-        to.parts ∙ ap (λ (t : List ℕ). opening ++ t) (ts.0.parts ∙ ap (λ (t : List ℕ). settings_text s.0.0 ++ t) from_counts) in
+    to.parts ∙ ap (λ (t : List ℕ). opening ++ t) (ts.0.parts ∙ ap (λ (t : List ℕ). settings_text s.0.0 ++ t) from_counts) in
     let image : Image file (joined s.0.0 ps.0.0 ss.0.0 k.0) = record {
       spelled = whole;
       rules = record {

@@ -24,7 +24,7 @@ unfolding provided_at
 provided_goes_on front count i place next least bytes entry after total below step one so_far =
     let more : count - i ≡ suc (count - (i + 1)) = omega arith in
     let same : with_front front (provided_at (count - i) place least bytes) ≡ with_front (front ++ entry ∷ []) (provided_at (count - (i + 1)) (place + 7) (entry.func + 1) after) =
-        rw (more, one) (regroup front entry (provided_at (count - (i + 1)) (place + 7) (entry.func + 1) after)) in
+    rw (more, one) (regroup front entry (provided_at (count - (i + 1)) (place + 7) (entry.func + 1) after)) in
     rw step (sym same ∙ so_far)
 
 pub provided_ends : (e : ImageError) (front : List Provided) (count i place least : ℕ) (bytes : List ℕ) (total : Entries Provided)
@@ -50,7 +50,7 @@ unfolding subscribed_at
 subscribed_goes_on front count i place next bytes entry after total below step one so_far =
     let more : count - i ≡ suc (count - (i + 1)) = omega arith in
     let same : with_front front (subscribed_at (count - i) place bytes) ≡ with_front (front ++ entry ∷ []) (subscribed_at (count - (i + 1)) (place + 6) after) =
-        rw (more, one) (regroup front entry (subscribed_at (count - (i + 1)) (place + 6) after)) in
+    rw (more, one) (regroup front entry (subscribed_at (count - (i + 1)) (place + 6) after)) in
     rw step (sym same ∙ so_far)
 
 pub subscribed_ends : (e : ImageError) (front : List Subscribed) (count i place : ℕ) (bytes : List ℕ) (total : Entries Subscribed)

@@ -1,8 +1,7 @@
 -- The parts of an image: what is read is the part that was written, and what was written is read again.
-use Rattle.std.proofs.Common.{◌≡◌, ℕ, zero, suc, ◌+◌, ◌*◌, ◌<◌, ◌≤◌, Bool, true, false, eqb, List, [], ◌∷◌, ◌++◌, length, Result, Ok, Err, refl, sym, ap, subst, ◌∙◌, append_assoc, arith}
+use Rattle.std.proofs.Common.{◌≡◌, ℕ, zero, suc, ◌+◌, ◌≤◌, Bool, true, false, eqb, List, [], ◌∷◌, ◌++◌, length, Ok, refl, sym, ap, subst, ◌∙◌, append_assoc, arith}
 use Rattle.std.specs.List.{flat_map, AllByRecursion}
 use Rattle.std.proofs.lemmas.List.Concat.{flat_map-cons}
-use Rattle.module_image.specs.declared.error.ImageError.{ImageError}
 use Rattle.module_image.specs.declared.face.Provided.{Provided}
 use Rattle.module_image.specs.declared.face.Subscribed.{Subscribed}
 use Rattle.module_image.specs.declared.parts.Settings.{Settings}
@@ -57,11 +56,13 @@ unfolding settings_at
 settings_again s rest fits =
     let regrouped : settings_text s ++ rest ≡ s.id ∷ flags s.rewritten ∷ (word s.state_size ++ (word s.handler ++ rest)) = ap (λ (t : List ℕ). s.id ∷ flags s.rewritten ∷ t) (append_assoc (word s.state_size) (word s.handler) rest) in
     ap settings_at regrouped
-    ∙ rw (byte_again 5 1 254 s.id (flags s.rewritten ∷ (word s.state_size ++ (word s.handler ++ rest))) fits.id.0 fits.id.1,
-          byte_again 6 0 1 (flags s.rewritten) (word s.state_size ++ (word s.handler ++ rest)) (omega arith) (flags_bound s.rewritten),
-          number_again 7 s.state_size (word s.handler ++ rest) fits.state_size,
-          number_again 9 s.handler rest fits.handler,
-          flags_again s.rewritten) refl
+    ∙ rw (
+      byte_again 5 1 254 s.id (flags s.rewritten ∷ (word s.state_size ++ (word s.handler ++ rest))) fits.id.0 fits.id.1,
+      byte_again 6 0 1 (flags s.rewritten) (word s.state_size ++ (word s.handler ++ rest)) (omega arith) (flags_bound s.rewritten),
+      number_again 7 s.state_size (word s.handler ++ rest) fits.state_size,
+      number_again 9 s.handler rest fits.handler,
+      flags_again s.rewritten,
+    ) refl
 
 -- ---- counts
 
@@ -89,9 +90,11 @@ counts_takes bytes x fits e =
 pub counts_again : (c : Counts) (rest : List ℕ) → CountsFit c → counts_at (counts_text c ++ rest) ≡ Ok (c, rest)
 unfolding counts_at
 counts_again c rest fits =
-    rw (byte_again 11 0 16 c.provided (c.subscribed ∷ (word c.words ++ rest)) (omega arith) fits.provided,
-        byte_again 12 0 16 c.subscribed (word c.words ++ rest) (omega arith) fits.subscribed,
-        number_again 13 c.words rest fits.words) refl
+    rw (
+      byte_again 11 0 16 c.provided (c.subscribed ∷ (word c.words ++ rest)) (omega arith) fits.provided,
+      byte_again 12 0 16 c.subscribed (word c.words ++ rest) (omega arith) fits.subscribed,
+      number_again 13 c.words rest fits.words,
+    ) refl
 
 -- ---- provided functions
 
@@ -119,9 +122,11 @@ unfolding provided_one
 provided_one_again place least p rest fits =
     let regrouped : provided_entry p ++ rest ≡ p.func ∷ (p.proto ++ (word p.word ++ rest)) = ap (λ (t : List ℕ). p.func ∷ t) (append_assoc p.proto (word p.word) rest) in
     ap (provided_one place least) regrouped
-    ∙ rw (byte_again place least 255 p.func (p.proto ++ (word p.word ++ rest)) fits.low fits.high,
-          prototype_again (place + 1) p.proto (word p.word ++ rest) fits.proto,
-          number_again (place + 5) p.word rest fits.place) refl
+    ∙ rw (
+      byte_again place least 255 p.func (p.proto ++ (word p.word ++ rest)) fits.low fits.high,
+      prototype_again (place + 1) p.proto (word p.word ++ rest) fits.proto,
+      number_again (place + 5) p.word rest fits.place,
+    ) refl
 
 pub provided_take : (n place least : ℕ) (bytes : List ℕ) (x : List Provided × List ℕ) → IsBytes bytes → provided_at n place least bytes ≡ Ok x
     → Takes bytes (flat_map provided_entry x.0) x.1 × (length x.0 ≡ n) × AreProvided least x.0
@@ -163,9 +168,11 @@ subscribed_one_takes place bytes x fits e =
 pub subscribed_one_again : (place : ℕ) (s : Subscribed) (rest : List ℕ) → IsSubscribed s → subscribed_one place (subscribed_entry s ++ rest) ≡ Ok (s, rest)
 unfolding subscribed_one
 subscribed_one_again place s rest fits =
-    rw (byte_again place 1 254 s.module (s.func ∷ (s.proto ++ rest)) fits.0.0 fits.0.1,
-        byte_again (place + 1) 0 255 s.func (s.proto ++ rest) (omega arith) fits.1,
-        prototype_again (place + 2) s.proto rest fits.2) refl
+    rw (
+      byte_again place 1 254 s.module (s.func ∷ (s.proto ++ rest)) fits.0.0 fits.0.1,
+      byte_again (place + 1) 0 255 s.func (s.proto ++ rest) (omega arith) fits.1,
+      prototype_again (place + 2) s.proto rest fits.2,
+    ) refl
 
 pub subscribed_take : (n place : ℕ) (bytes : List ℕ) (x : List Subscribed × List ℕ) → IsBytes bytes → subscribed_at n place bytes ≡ Ok x
     → Takes bytes (flat_map subscribed_entry x.0) x.1 × (length x.0 ≡ n) × AllByRecursion IsSubscribed x.0

@@ -1,5 +1,5 @@
 -- Reading an image field by field, from the front, up to the first field that fails.
-use Rattle.std.specs.Prelude.{◌≡◌, ℕ, zero, suc, ◌+◌, ◌*◌, Bool, List, [], ◌∷◌, length, take, drop, Result, Ok, Err, nat_lt, nat_eq, ◌==◌, ◌||◌, if◌then◌else◌}
+use Rattle.std.specs.Prelude.{◌≡◌, ℕ, zero, suc, ◌+◌, ◌*◌, List, [], ◌∷◌, length, take, drop, Result, Ok, Err, nat_lt, nat_eq, ◌==◌, ◌||◌, if◌then◌else◌}
 use Rattle.std.specs.Cmp.Lexicographic.{pointwise}
 use Rattle.byteorder.specs.Endian.{little_number}
 use Rattle.mote_base.specs.Words.{words_of}
@@ -7,7 +7,6 @@ use Rattle.module_image.specs.declared.error.ImageError.{ImageError}
 use Rattle.module_image.specs.declared.error.ImageError.TheVariants.{Short, Magic, Version, Field, Long}
 use Rattle.module_image.specs.declared.face.Provided.{Provided}
 use Rattle.module_image.specs.declared.face.Subscribed.{Subscribed}
-use Rattle.module_image.specs.declared.face.Face.{Face}
 use Rattle.module_image.specs.declared.parts.Settings.{Settings}
 use Rattle.module_image.specs.declared.parts.Counts.{Counts}
 use Rattle.module_image.specs.Contents.{Contents}
@@ -120,5 +119,5 @@ image_of file = do
     rewritten = settings.0.rewritten;
     state_size = settings.0.state_size;
     handler = settings.0.handler;
-    code = code
+    code = code;
   })

@@ -9,5 +9,4 @@ ghost use Rattle.module_image.specs.Reading.{image_of};
 pub fn one_reading()
     ensures read { (file : List ℕ) (c : Contents) → Image file c → image_of file ≡ Ok c }
     ensures one { (file : List ℕ) (a b : Contents) → Image file a → Image file b → a ≡ b }
-{
-}
+{}

@@ -96,5 +96,12 @@ pub fn read_subscribed(at: u32, bytes: &[u8]) -> Result<(Subscribed, &[u8]), Ima
     let (module, rest) = byte(at, 1, 254, bytes)?;
     let (func, rest) = byte(at + 1, 0, 255, rest)?;
     let (proto, rest) = prototype(at + 2, rest)?;
-    Ok((Subscribed { module, func, proto }, rest))
+    Ok((
+        Subscribed {
+            module,
+            func,
+            proto,
+        },
+        rest,
+    ))
 }

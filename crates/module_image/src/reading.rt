@@ -37,7 +37,11 @@ fn provided_list(count: u8, bytes: &[u8]) -> Result<Entries<'_, Provided>, Image
     Ok((list, rest))
 }
 
-fn subscribed_list(count: u8, start: u32, bytes: &[u8]) -> Result<Entries<'_, Subscribed>, ImageError>
+fn subscribed_list(
+    count: u8,
+    start: u32,
+    bytes: &[u8],
+) -> Result<Entries<'_, Subscribed>, ImageError>
     requires count { count ≤ 16 }
     requires start { start < 2 ^ 15 }
     ensures { Gives (λ x. (x.0.items, x.1.now)) result (subscribed_at count start bytes.now) }

@@ -4,10 +4,12 @@ use crate::{Provided, Subscribed, parse, write_image};
 use std::test::Fail;
 
 /// Module 1, with nothing provided or subscribed, and four words of code.
-const ALONE: [u8; 23] = *b"SOSM\x01\x01\x00\x00\x00\x00\x00\x00\x00\x04\x00\x81\xE4\x0E\x94\x08\xF1\x08\x95";
+const ALONE: [u8; 23] =
+    *b"SOSM\x01\x01\x00\x00\x00\x00\x00\x00\x00\x04\x00\x81\xE4\x0E\x94\x08\xF1\x08\x95";
 
 /// Module 7, with two provided functions, a subscription, and one word of code.
-const LINKED: [u8; 37] = *b"SOSM\x01\x07\x01\x02\x01\x03\x00\x02\x01\x01\x00\x01!abc\x04\x02\x05~abc\x00\x00\xFE\x09vvv0\x08\x95";
+const LINKED: [u8; 37] =
+    *b"SOSM\x01\x07\x01\x02\x01\x03\x00\x02\x01\x01\x00\x01!abc\x04\x02\x05~abc\x00\x00\xFE\x09vvv0\x08\x95";
 
 fn refusal(file: &[u8]) -> Option<(u8, u32)> {
     let error = parse(file).err()?;
@@ -17,10 +19,18 @@ fn refusal(file: &[u8]) -> Option<(u8, u32)> {
 #[test]
 fn a_file_cut_short_is_refused(rt: HostRuntime) {
     for (length, _) in ALONE.iter().enumerate() {
-        assert_eq!(rt; refusal(&ALONE[..length]), Some((1, length as u32)), "{length}");
+        assert_eq!(rt;
+            refusal(&ALONE[..length]),
+            Some((1, length as u32)),
+            "{length}"
+        );
     }
     for (length, _) in LINKED.iter().enumerate() {
-        assert_eq!(rt; refusal(&LINKED[..length]), Some((1, length as u32)), "{length}");
+        assert_eq!(rt;
+            refusal(&LINKED[..length]),
+            Some((1, length as u32)),
+            "{length}"
+        );
     }
 }
 
@@ -98,11 +108,23 @@ fn the_parts_are_read(rt: HostRuntime) -> Result<(), Fail> {
     let face = image.face();
     assert_eq!(rt; face.id, 7);
     let provided = [
-        Provided { func: 1, proto: *b"!abc", word: 0x0204 },
-        Provided { func: 5, proto: *b"~abc", word: 0 },
+        Provided {
+            func: 1,
+            proto: *b"!abc",
+            word: 0x0204,
+        },
+        Provided {
+            func: 5,
+            proto: *b"~abc",
+            word: 0,
+        },
     ];
     assert_eq!(rt; face.provided.as_slice(), provided.as_slice());
-    let subscribed = [Subscribed { module: 254, func: 9, proto: *b"vvv0" }];
+    let subscribed = [Subscribed {
+        module: 254,
+        func: 9,
+        proto: *b"vvv0",
+    }];
     assert_eq!(rt; face.subscribed.as_slice(), subscribed.as_slice());
     Ok(())
 }
@@ -127,7 +149,14 @@ fn what_is_read_is_written_again(rt: HostRuntime) -> Result<(), Fail> {
     let face = image.face();
     assert_eq!(rt; face.provided.len(), 16);
     assert_eq!(rt; face.subscribed.len(), 16);
-    let again = write_image(rt.alloc(), &face, image.rewritten(), image.state_size(), 0, &[])?;
+    let again = write_image(
+        rt.alloc(),
+        &face,
+        image.rewritten(),
+        image.state_size(),
+        0,
+        &[],
+    )?;
     assert_eq!(rt; again.as_slice(), file.as_slice());
     Ok(())
 }

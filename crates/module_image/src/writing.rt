@@ -25,14 +25,25 @@ pub fn write_image(
     let mut file = Vec::new(alloc);
     file.extend_from_slice(b"SOSM\x01")?;
     put_settings(&mut file, face.id, rewritten, state_size, handler)?;
-    put_counts(&mut file, face.provided.len() as u8, face.subscribed.len() as u8, code.len() as u16)?;
+    put_counts(
+        &mut file,
+        face.provided.len() as u8,
+        face.subscribed.len() as u8,
+        code.len() as u16,
+    )?;
     put_provided(&mut file, &face.provided)?;
     put_subscribed(&mut file, &face.subscribed)?;
     put_words(&mut file, code)?;
     Ok(file)
 }
 
-fn put_settings(file: &mut Vec<u8>, id: u8, rewritten: bool, state_size: u16, handler: u16) -> Result<(), NoMemory>
+fn put_settings(
+    file: &mut Vec<u8>,
+    id: u8,
+    rewritten: bool,
+    state_size: u16,
+    handler: u16,
+) -> Result<(), NoMemory>
     ensures { OnOk result (file.new.items ≡ file.old.items ++ settings id rewritten state_size handler) }
 {
     let flags = if rewritten { 1 } else { 0 };

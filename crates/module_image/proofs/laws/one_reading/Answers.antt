@@ -1,4 +1,4 @@
-use Rattle.std.proofs.Common.{◌∙◌, sym, ap, refl}
+use Rattle.std.proofs.Common.{◌∙◌, sym, refl}
 use Rattle.module_image.specs.Reading.{image_of}
 use Rattle.module_image.proofs.Fields.{ok_is}
 use Rattle.module_image.proofs.Images.{image_read}
