@@ -113,7 +113,7 @@ prototype_again place (a ∷ b ∷ c ∷ d ∷ f ∷ p) rest fits = absurd fits
 
 -- ---- the opening
 
-magic_takes : (bytes rest : List ℕ) → IsBytes bytes → magic_at bytes ≡ Ok rest → Takes bytes (0x53 ∷ 0x4F ∷ 0x53 ∷ 0x4D ∷ []) rest
+pub magic_takes : (bytes rest : List ℕ) → IsBytes bytes → magic_at bytes ≡ Ok rest → Takes bytes (0x53 ∷ 0x4F ∷ 0x53 ∷ 0x4D ∷ []) rest
 magic_takes bytes rest fits e =
     let g = guard_ok (ltb (length bytes) 4) (Short (length bytes)) (cond (pointwise eqb (take 4 bytes) (0x53 ∷ 0x4F ∷ 0x53 ∷ 0x4D ∷ [])) (Ok (drop 4 bytes)) (Err Magic)) rest e in
     let p = pass_ok (pointwise eqb (take 4 bytes) (0x53 ∷ 0x4F ∷ 0x53 ∷ 0x4D ∷ [])) Magic (Ok (drop 4 bytes)) rest g.1 in

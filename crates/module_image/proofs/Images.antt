@@ -66,7 +66,7 @@ code_again place ws fits =
 -- ---- the whole
 
 -- the contents of the parts
-abbrev joined : Settings → List Provided → List Subscribed → List ℕ → Contents
+abbrev pub joined : Settings → List Provided → List Subscribed → List ℕ → Contents
 joined s ps ss code = record {
   face = record { id = s.id; provided = record { items = ps }; subscribed = record { items = ss } };
   rewritten = s.rewritten;
@@ -75,19 +75,19 @@ joined s ps ss code = record {
   code = code;
 }
 
-abbrev with_code : Settings → Counts → List Provided → List Subscribed × List ℕ → Result Contents ImageError
+abbrev pub with_code : Settings → Counts → List Provided → List Subscribed × List ℕ → Result Contents ImageError
 with_code s n ps ss = code_at n.words (15 + 7 * n.provided + 6 * n.subscribed) ss.1 >>= λ code. Ok (joined s ps ss.0 code)
 
-abbrev with_subscribed : Settings → Counts → List Provided × List ℕ → Result Contents ImageError
+abbrev pub with_subscribed : Settings → Counts → List Provided × List ℕ → Result Contents ImageError
 with_subscribed s n ps = subscribed_at n.subscribed (15 + 7 * n.provided) ps.1 >>= λ ss. with_code s n ps.0 ss
 
-abbrev with_provided : Settings → Counts × List ℕ → Result Contents ImageError
+abbrev pub with_provided : Settings → Counts × List ℕ → Result Contents ImageError
 with_provided s n = provided_at n.0.provided 15 0 n.1 >>= λ ps. with_subscribed s n.0 ps
 
-abbrev with_counts : Settings × List ℕ → Result Contents ImageError
+abbrev pub with_counts : Settings × List ℕ → Result Contents ImageError
 with_counts s = counts_at s.1 >>= λ n. with_provided s.0 n
 
-abbrev with_settings : List ℕ → Result Contents ImageError
+abbrev pub with_settings : List ℕ → Result Contents ImageError
 with_settings opened = settings_at opened >>= λ s. with_counts s
 
 counted : (a b c x y z : ℕ) (rest : List ℕ) → x ≡ a → y ≡ b → z ≡ c → counts a b c ++ rest ≡ counts x y z ++ rest

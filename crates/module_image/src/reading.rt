@@ -1,5 +1,6 @@
 //! Reading an image.
-ghost use Rattle.std.specs.Prelude.{◌≡◌, ◌≤◌, ◌<◌, ◌^◌, IfOk, Ok};
+ghost use Rattle.std.specs.Prelude.{◌≡◌, ℕ, ◌≤◌, ◌<◌, ◌^◌, length, IfOk, Ok, Err};
+ghost use Rattle.module_image.specs.declared.error.ImageError.TheVariants.{Short};
 ghost use Rattle.mote_base.specs.Words.{words_of};
 ghost use Rattle.module_image.specs.Contents.{Contents};
 ghost use Rattle.module_image.specs.Spelling.{Image};
@@ -81,6 +82,8 @@ pub fn parse<'a>(file: &'a [u8]) -> Result<ImageView<'a>, ImageError>
     ensures only { (c : Contents) → Image file.now c → result ≡ Ok c }
     // Every other file is refused for its first field that fails.
     ensures exact { result ≡ image_of file.now }
+    // A file that ends within a field is refused with its length.
+    ensures short { (at : ℕ) → result ≡ Err (Short at) → at ≡ length file.now }
 {
     read(file)
 }
