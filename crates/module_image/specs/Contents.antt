@@ -17,7 +17,7 @@ pub record Contents : Type 0 where
 abbrev pub IsWord : ℕ → Type 0
 IsWord n = n < 2 ^ 16
 
--- the id of a module: 0 and 255 are the kernel's
+-- the id of a module: 0 and 255 name none
 abbrev pub IsModuleId : ℕ → Type 0
 IsModuleId id = (1 ≤ id) × (id ≤ 254)
 

@@ -4,7 +4,6 @@ use Rattle.std.specs.List.{flat_map}
 use Rattle.byteorder.specs.Endian.{little_bytes}
 use Rattle.module_image.specs.declared.face.Provided.{Provided}
 use Rattle.module_image.specs.declared.face.Subscribed.{Subscribed}
-use Rattle.module_image.specs.declared.face.Face.{Face}
 use Rattle.module_image.specs.Contents.{Contents, Rules}
 
 -- two bytes, the low one first
@@ -32,10 +31,6 @@ provided_entry p = p.func ∷ (p.proto ++ word p.word)
 
 abbrev pub subscribed_entry : Subscribed → List ℕ
 subscribed_entry s = s.module ∷ s.func ∷ s.proto
-
--- the two lists of entries
-abbrev pub entries : Face → List ℕ
-entries f = flat_map provided_entry f.provided.items ++ flat_map subscribed_entry f.subscribed.items
 
 -- the fields in their order
 abbrev pub spelling : Contents → List ℕ

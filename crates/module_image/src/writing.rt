@@ -2,7 +2,7 @@
 ghost use Rattle.std.specs.Prelude.{◌≡◌, ◌<◌, ◌^◌, ◌++◌, length, OnOk, IfOk};
 ghost use Rattle.std.specs.List.{flat_map};
 ghost use Rattle.module_image.specs.Contents.{FaceRules};
-ghost use Rattle.module_image.specs.Spelling.{Image, counts, opening, provided_entry, settings, subscribed_entry, word};
+ghost use Rattle.module_image.specs.Spelling.{Image, counts, provided_entry, settings, subscribed_entry, word};
 
 use crate::{Face, Provided, Subscribed};
 use byteorder::{ByteOrder, LittleEndian};
