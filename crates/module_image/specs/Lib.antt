@@ -1,0 +1,5 @@
+pub mod Contents
+pub mod Links
+pub mod Reading
+pub mod Refusal
+pub mod Spelling

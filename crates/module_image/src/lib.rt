@@ -1,0 +1,23 @@
+//! The file of a module: its image. A file is read into the parts that it spells, and parts are written as a file.
+//!
+//! An image is its fields in their order, each with its rule, and nothing more. `parse` gives the one reading of such a file, and
+//! for every other file the refusal of the first field that fails, with its place. `write_image` gives the file of its arguments.
+#![tactic(auto)]
+
+mod error;
+mod face;
+mod field;
+mod laws;
+mod parts;
+mod reading;
+#[cfg(test)]
+mod tests;
+mod view;
+mod writing;
+
+pub use error::ImageError;
+pub use face::{Face, Provided, Subscribed};
+pub use laws::one_reading;
+pub use reading::parse;
+pub use view::ImageView;
+pub use writing::write_image;

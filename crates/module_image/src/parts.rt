@@ -1,0 +1,107 @@
+//! The parts of an image, each a few fields that stand together.
+ghost use Rattle.std.specs.Prelude.{◌≡◌, ◌<◌, ◌≤◌, ◌^◌, IfOk};
+ghost use Rattle.module_image.specs.Reading.{Gives, opening_at, settings_at, counts_at, provided_one, subscribed_one};
+
+use crate::field::{byte, number, prototype};
+use crate::{ImageError, Provided, Subscribed};
+
+const MAGIC: [u8; 4] = *b"SOSM";
+
+/// What the fields before the counts say.
+#[derive(Clone, Copy)]
+pub struct Settings {
+    pub id: u8,
+    pub rewritten: bool,
+    pub state_size: u16,
+    pub handler: u16,
+}
+
+/// How many entries and code words follow.
+#[derive(Clone, Copy)]
+pub struct Counts {
+    pub provided: u8,
+    pub subscribed: u8,
+    pub words: u16,
+}
+
+/// `SOSM` and the version.
+#[tactic(auto, unfolding(crate::specs::Reading::opening_at))]
+pub fn read_opening(file: &[u8]) -> Result<&[u8], ImageError>
+    ensures { Gives (λ rest. rest.now) result (opening_at file.now) }
+{
+    if file.len() < MAGIC.len() {
+        return Err(ImageError::Short(file.len() as u32));
+    }
+    let (front, rest) = file.split_at(MAGIC.len());
+    if front != MAGIC.as_slice() {
+        return Err(ImageError::Magic);
+    }
+    match rest {
+        [] => Err(ImageError::Short(4)),
+        [1, rest @ ..] => Ok(rest),
+        [version, ..] => Err(ImageError::Version(*version)),
+    }
+}
+
+#[tactic(auto, unfolding(crate::specs::Reading::settings_at))]
+pub fn read_settings(bytes: &[u8]) -> Result<(Settings, &[u8]), ImageError>
+    ensures { Gives (λ x. (x.0, x.1.now)) result (settings_at bytes.now) }
+{
+    let (id, rest) = byte(5, 1, 254, bytes)?;
+    let (flags, rest) = byte(6, 0, 1, rest)?;
+    let (state_size, rest) = number(7, rest)?;
+    let (handler, rest) = number(9, rest)?;
+    let settings = Settings {
+        id,
+        rewritten: flags == 1,
+        state_size,
+        handler,
+    };
+    Ok((settings, rest))
+}
+
+#[tactic(auto, unfolding(crate::specs::Reading::counts_at))]
+pub fn read_counts(bytes: &[u8]) -> Result<(Counts, &[u8]), ImageError>
+    ensures exact { Gives (λ x. (x.0, x.1.now)) result (counts_at bytes.now) }
+    ensures bounds { IfOk result (λ x. (x.0.provided ≤ 16) × (x.0.subscribed ≤ 16)) }
+{
+    let (provided, rest) = byte(11, 0, 16, bytes)?;
+    let (subscribed, rest) = byte(12, 0, 16, rest)?;
+    let (words, rest) = number(13, rest)?;
+    let counts = Counts {
+        provided,
+        subscribed,
+        words,
+    };
+    Ok((counts, rest))
+}
+
+/// A provided function whose id is at least that one.
+#[tactic(auto, unfolding(crate::specs::Reading::provided_one))]
+pub fn read_provided(at: u32, least: u16, bytes: &[u8]) -> Result<(Provided, &[u8]), ImageError>
+    requires { at < 2 ^ 16 }
+    ensures { Gives (λ x. (x.0, x.1.now)) result (provided_one at least bytes.now) }
+{
+    let (func, rest) = byte(at, least, 255, bytes)?;
+    let (proto, rest) = prototype(at + 1, rest)?;
+    let (word, rest) = number(at + 5, rest)?;
+    Ok((Provided { func, proto, word }, rest))
+}
+
+#[tactic(auto, unfolding(crate::specs::Reading::subscribed_one))]
+pub fn read_subscribed(at: u32, bytes: &[u8]) -> Result<(Subscribed, &[u8]), ImageError>
+    requires { at < 2 ^ 16 }
+    ensures { Gives (λ x. (x.0, x.1.now)) result (subscribed_one at bytes.now) }
+{
+    let (module, rest) = byte(at, 1, 254, bytes)?;
+    let (func, rest) = byte(at + 1, 0, 255, rest)?;
+    let (proto, rest) = prototype(at + 2, rest)?;
+    Ok((
+        Subscribed {
+            module,
+            func,
+            proto,
+        },
+        rest,
+    ))
+}
