@@ -1,1 +1,4 @@
-
+pub mod FileLemmas
+pub mod Puts
+pub mod SoFar
+pub mod WordLemmas

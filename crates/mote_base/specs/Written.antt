@@ -1,5 +1,5 @@
 -- What a sink was given: its bytes, its count of faults, and which puts were made.
-use Rattle.std.specs.Prelude.{◌≡◌, ◌⊎◌, ℕ, ◌≤◌, Bool, true, false, List, [], ◌∷◌, ◌++◌, Option, Some, Result, Ok, Err}
+use Rattle.std.specs.Prelude.{◌≡◌, ◌⊎◌, ℕ, ◌≤◌, Bool, true, false, List, [], ◌∷◌, ◌++◌, Option, Some, Result, OnOk, OnErr}
 use Rattle.mote_base.specs.Causes.{Rose}
 
 -- The whole begins with this front.
@@ -48,6 +48,6 @@ pub record Broke {K : Type 0} (written : K → Option (List ℕ)) (faults : K �
   pub puts : InPieces leads old new text false
 
 -- The text was written where the answer is Ok, and broke off where it is an Err.
-abbrev pub Puts : {K T E : Type 0} → (K → Option (List ℕ)) → (K → ℕ) → (K → List ℕ → Bool → K → Type 0) → K → K → List ℕ → Result T E → Type 0
-Puts written faults leads old new text (Ok done) = Wrote written faults leads old new text
-Puts written faults leads old new text (Err stop) = Broke written faults leads old new text
+pub record Puts {K T E : Type 0} (written : K → Option (List ℕ)) (faults : K → ℕ) (leads : K → List ℕ → Bool → K → Type 0) (old new : K) (text : List ℕ) (result : Result T E) : Type 0 where
+  pub wrote : OnOk result (Wrote written faults leads old new text)
+  pub broke : OnErr result (Broke written faults leads old new text)

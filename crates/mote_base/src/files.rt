@@ -6,24 +6,31 @@ ghost use Rattle.mote_base.specs.Table.{named, Finds};
 use crate::Word;
 use std::marker::Model;
 
-/// Files by name, and the chosen one with the number of its bytes that were given.
+/// The index of the chosen file, and how many of its bytes were given.
+#[derive(Clone, Copy)]
+pub struct Cursor {
+    file: usize,
+    at: usize,
+}
+
+/// Files by name, and a cursor in the chosen one.
 #[derive(Drop)]
 pub struct Files {
     files: Vec<(Word, Vec<u8>)>,
-    chosen: Option<usize>,
-    at: usize,
+    chosen: Option<Cursor>,
 }
 
 impl Model for Files {
     ghost use Rattle.std.specs.Prelude.{◌≡◌, ◌<◌, ℕ, Some, length};
-    ghost use Rattle.mote_base.specs.Memory.{OpenFiles};
+    ghost use Rattle.mote_base.specs.Shelves.{OpenFiles};
     ghost use Rattle.mote_base.specs.Table.{named, place_in};
+    ghost use Rattle.mote_base.specs.declared.files.Cursor.{Cursor};
 
     ghost Value = { OpenFiles };
 
-    ghost view = { λ s. record { files = named s.files.items; chosen = place_in s.files.items s.chosen s.at } };
+    ghost view = { λ s. record { files = named s.files.items; chosen = place_in s.files.items s.chosen } };
 
-    ghost invariant = { λ s. (i : ℕ) → s.chosen ≡ Some i → i < length s.files.items };
+    ghost invariant = { λ s. (c : Cursor) → s.chosen ≡ Some c → c.file < length s.files.items };
 }
 
 impl Files {
@@ -33,7 +40,6 @@ impl Files {
         Files {
             files,
             chosen: None,
-            at: 0,
         }
     }
 
@@ -42,8 +48,7 @@ impl Files {
         ensures held { result ≡ is_some (held self.old.files name.now) }
         ensures chosen { self.new ≡ record { files = self.old.files; chosen = front_of (held self.old.files name.now) } }
     {
-        self.at = 0;
-        self.chosen = find(&self.files, name);
+        self.chosen = find(&self.files, name).map(|file| Cursor { file, at: 0 });
         self.chosen.is_some()
     }
 
@@ -63,11 +68,12 @@ impl Files {
         ensures chosen { is_some self.new.chosen ≡ true }
         ensures files { self.new.files ≡ self.old.files }
     {
-        let count = match self.chosen {
-            None => unreachable!(),
-            Some(i) => copy_from(&self.files[i].1, self.at, buf),
+        let Some(Cursor { file, at }) = self.chosen else {
+            unreachable!()
         };
-        self.at += count;
+        let count = copy_from(&self.files[file].1, at, buf);
+        let at = at + count;
+        self.chosen = Some(Cursor { file, at });
         count
     }
 }

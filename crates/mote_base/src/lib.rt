@@ -10,6 +10,8 @@ mod files;
 mod memory;
 mod outside;
 mod sure;
+#[cfg(test)]
+mod tests;
 mod word;
 mod words;
 

@@ -2,7 +2,9 @@
 ghost use Rattle.std.specs.Prelude.{◌≡◌, ◌≤◌, ◌||◌, [], length, drop, is_err, is_none, is_ok, is_some, IsTrue, IfOk, OnOk, OnErr, true, false, Some, None};
 ghost use Rattle.mote_base.specs.Causes.{HasCause};
 ghost use Rattle.mote_base.specs.Files.{held, Opens, Gives, Holds};
-ghost use Rattle.mote_base.specs.Memory.{lists, next_count, fails_next, CountsCall, fails_put};
+ghost use Rattle.mote_base.specs.Counting.{lists, next_count};
+ghost use Rattle.mote_base.specs.Shelves.{fails_next, CountsCall};
+ghost use Rattle.mote_base.specs.Sinks.{fails_put};
 ghost use Rattle.mote_base.specs.Table.{named};
 ghost use Rattle.mote_base.specs.Written.{Grows, GrowsByPart};
 
@@ -21,7 +23,7 @@ pub struct MemShelf {
 }
 
 impl Model for MemShelf {
-    ghost use Rattle.mote_base.specs.Memory.{FailingShelf};
+    ghost use Rattle.mote_base.specs.Shelves.{FailingShelf};
 
     ghost Value = { FailingShelf };
 
@@ -118,7 +120,7 @@ pub struct MemSink {
 
 impl Model for MemSink {
     ghost use Rattle.std.specs.Prelude.{◌≤◌, vec_len, vec_capacity};
-    ghost use Rattle.mote_base.specs.Memory.{FailingSink};
+    ghost use Rattle.mote_base.specs.Sinks.{FailingSink};
 
     ghost Value = { FailingSink };
 
@@ -151,7 +153,7 @@ impl MemSink {
 }
 
 impl Sink for MemSink {
-    ghost use Rattle.mote_base.specs.Memory.{PutsInMemory};
+    ghost use Rattle.mote_base.specs.Sinks.{PutsInMemory};
 
     ghost written = { λ s. Some s.bytes };
 

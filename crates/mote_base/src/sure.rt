@@ -2,7 +2,7 @@
 ghost use Rattle.std.specs.Prelude.{◌≡◌, is_ok, is_some, None, Some, IfOk, OnOk, OnErr, true};
 ghost use Rattle.mote_base.specs.Causes.{HasCause};
 ghost use Rattle.mote_base.specs.Files.{held};
-ghost use Rattle.mote_base.specs.Memory.{total_with};
+ghost use Rattle.mote_base.specs.Sinks.{total_with};
 ghost use Rattle.mote_base.specs.Table.{named};
 ghost use Rattle.mote_base.specs.Written.{Grows, GrowsByPart};
 
@@ -18,7 +18,7 @@ pub struct SureShelf {
 }
 
 impl Model for SureShelf {
-    ghost use Rattle.mote_base.specs.Memory.{OpenFiles};
+    ghost use Rattle.mote_base.specs.Shelves.{OpenFiles};
 
     ghost Value = { OpenFiles };
 
@@ -88,7 +88,7 @@ impl SureSink {
 }
 
 impl Sink for SureSink {
-    ghost use Rattle.mote_base.specs.Memory.{Counts};
+    ghost use Rattle.mote_base.specs.Sinks.{Counts};
 
     ghost written = { λ _. None };
 

@@ -43,6 +43,7 @@ impl<'a> Words<'a> {
         requires { i < length self.now }
         ensures { result ≡ slice_index self.now i }
     {
-        u16::from_le_bytes([self.bytes[2 * i], self.bytes[2 * i + 1]])
+        let bytes = self.bytes;
+        u16::from_le_bytes([bytes[2 * i], bytes[2 * i + 1]])
     }
 }

@@ -1,0 +1,18 @@
+-- The words that bytes make, by their number and by their places.
+use Rattle.std.proofs.Common.{◌≡◌, ℕ, zero, suc, ◌+◌, ◌*◌, ◌/◌, ◌<◌, List, [], ◌∷◌, length, get_or, refl, arith}
+use Rattle.mote_base.specs.Words.{words_of}
+
+pub length-words_of : (bytes : List ℕ) → length (words_of bytes) ≡ length bytes / 2
+length-words_of [] = refl
+length-words_of (low ∷ []) = refl
+length-words_of (low ∷ high ∷ rest) = omega (arith, length-words_of rest)
+
+pub get_or-words_of : (bytes : List ℕ) (i : ℕ) → i < length (words_of bytes) → get_or (words_of bytes) i 0 ≡ get_or bytes (2 * i) 0 + 256 * get_or bytes (2 * i + 1) 0
+get_or-words_of [] i below = absurd (omega arith)
+get_or-words_of (low ∷ []) i below = absurd (omega arith)
+get_or-words_of (low ∷ high ∷ rest) zero below = refl
+get_or-words_of (low ∷ high ∷ rest) (suc i) below =
+    let first : 2 * suc i ≡ suc (suc (2 * i)) = omega arith in
+    let second : 2 * suc i + 1 ≡ suc (suc (2 * i + 1)) = omega arith in
+    let less : i < length (words_of rest) = omega arith in
+    rw (second, first) (get_or-words_of rest i less)
