@@ -1,5 +1,5 @@
 -- What the table says of two words, as a function: the first line whose pattern the word has. No word has two lines.
-use Rattle.std.specs.Prelude.{◌≡◌, ◌==◌, ◌&&◌, ℕ, Bool, true, false, List, [], ◌∷◌, length, Option, None, Some, Result, Ok, Err, if◌then◌else◌}
+use Rattle.std.specs.Prelude.{◌==◌, ◌&&◌, ℕ, Bool, true, List, [], ◌∷◌, length, Option, None, Some, Result, Ok, Err, if◌then◌else◌}
 use Rattle.std.specs.Int.{bit_at}
 use Rattle.avr_isa.specs.Pattern.{symbols, operand}
 use Rattle.avr_isa.specs.Table.{Line, Form, one_word, two_words, table}

@@ -1,5 +1,7 @@
-pub mod Pattern
-pub mod Table
-pub mod Operands
 pub mod Decoded
+pub mod FirstWord
 pub mod Laws
+pub mod Operands
+pub mod Pattern
+pub mod Place
+pub mod Table

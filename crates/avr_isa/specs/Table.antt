@@ -1,9 +1,11 @@
 -- The opcodes of the ATmega128, a line each, as the sections "16-bit Opcode" and "32-bit Opcode" of the AVR Instruction Set
 -- Manual print them, and the instruction that each stands for. A word in no line is undefined.
-use Rattle.std.specs.Prelude.{◌≡◌, ◌+◌, ◌*◌, ◌^◌, ℕ, List, [], ◌∷◌, Option, None, Some, slice_get}
+use Rattle.std.specs.Prelude.{◌≡◌, ◌+◌, ◌*◌, ◌^◌, ℕ, List, [], ◌∷◌, Option, None, Some, Result, Ok, Err, slice_get}
 use Rattle.avr_isa.specs.Pattern.{symbols, Matches, operand, signed}
 use Rattle.avr_isa.specs.declared.instruction.Instr.{Instr}
 use Rattle.avr_isa.specs.declared.instruction.Instr.TheVariants.{Nop, Movw, Muls, Mulsu, Fmul, Fmuls, Fmulsu, Cpc, Sbc, Add, Cpse, Cp, Sub, Adc, And, Eor, Or, Mov, Cpi, Sbci, Subi, Ori, Andi, Ldi, LddZ, LddY, StdZ, StdY, Lds, LdZInc, LdZDec, LpmZ, LpmZInc, ElpmZ, ElpmZInc, LdYInc, LdYDec, LdX, LdXInc, LdXDec, Pop, Sts, StZInc, StZDec, StYInc, StYDec, StX, StXInc, StXDec, Push, Com, Neg, Swap, Inc, Asr, Lsr, Ror, Dec, Bset, Bclr, Ijmp, Icall, Ret, Reti, Sleep, Break, Wdr, LpmR0, ElpmR0, Spm, Jmp, Call, Adiw, Sbiw, Cbi, Sbic, Sbi, Sbis, Mul, In, Out, Rjmp, Rcall, Brbs, Brbc, Bld, Bst, Sbrc, Sbrs}
+use Rattle.avr_isa.specs.declared.instruction.DecodeError.{DecodeError}
+use Rattle.avr_isa.specs.declared.instruction.DecodeError.TheVariants.{Undefined, NeedsSecond}
 use Prim.Native.String.{String}
 use Prim.Native.Char.{Char}
 
@@ -22,7 +24,7 @@ line pattern instruction = record { pattern = pattern; form = one_word instructi
 abbrev pub line_and_word : String → ((Char → ℕ) → ℕ → Instr) → Line
 line_and_word pattern instruction = record { pattern = pattern; form = two_words instruction }
 
--- the lines, in the order of their first words
+-- the lines
 abbrev pub table : List Line
 table =
     line "0000 0000 0000 0000" (λ at. Nop)
@@ -142,7 +144,13 @@ IsTwoWords (two_words instruction) = Unit {0}
 unfoldable pub HasSecondWord : ℕ → Type 0
 HasSecondWord word = (l : Line) × HasLine word l × IsTwoWords l.form
 
--- the number of words, the second of which may be missing
+-- the number of words, where the second may be missing
 abbrev pub word_count : Option ℕ → ℕ
 word_count None = 1
 word_count (Some k) = 2
+
+-- what the table says of the words
+abbrev pub IsDecoded : ℕ → Option ℕ → Result (Instr × ℕ) DecodeError → Type 0
+IsDecoded first second (Ok found) = Row first second found.0 found.1
+IsDecoded first second (Err (Undefined word)) = (word ≡ first) × HasNoRow first
+IsDecoded first second (Err NeedsSecond) = (second ≡ None) × HasSecondWord first

@@ -1,12 +1,14 @@
 //! From words to the instruction.
+#![tactic(auto, using(crate::proofs::Outcome::outcomes, crate::proofs::Encodable::encodable))]
 
-use crate::instruction::{DecodeError, Instr};
-
-ghost use Rattle.std.specs.Prelude.{◌≡◌, ◌↔◌, ℕ, IfOk};
+ghost use Rattle.std.specs.Prelude.{◌≡◌, ◌↔◌, ◌≤◌, ℕ, IfOk};
 ghost use Rattle.avr_isa.specs.declared.instruction.Instr.{Instr};
 ghost use Rattle.avr_isa.specs.Decoded.{decoded};
 ghost use Rattle.avr_isa.specs.Operands.{IsEncodable};
-ghost use Rattle.avr_isa.specs.Table.{HasNoRow, HasSecondWord, Row};
+ghost use Rattle.avr_isa.specs.Table.{HasNoRow, HasSecondWord, IsDecoded, Row, word_count};
+
+use crate::first_word::{FirstWord, first_word};
+use crate::instruction::{DecodeError, Instr};
 
 /// The instruction that the words begin with, and its number of words.
 ///
@@ -16,12 +18,27 @@ pub fn decode(w0: u16, w1: Option<u16>) -> Result<(Instr, u8), DecodeError>
     ensures undefined { (result ≡ Err (DecodeError.Undefined w0)) ↔ HasNoRow w0 }
     ensures needs_second { (result ≡ Err DecodeError.NeedsSecond) ↔ ((w1 ≡ None) × HasSecondWord w0) }
 
-    // The same as one equation, and that `encode` takes what is decoded.
+    // The same as one equation; and that `encode` takes what is decoded, and the words are there.
     ensures value { result ≡ decoded w0 w1 }
     ensures encodable { IfOk result (λ found. IsEncodable found.0) }
+    ensures count { IfOk result (λ found. (1 ≤ found.1) × (found.1 ≤ word_count w1)) }
 {
+    outcome(w0, w1)
+}
+
+/// What the table says of the words.
+fn outcome(w0: u16, w1: Option<u16>) -> Result<(Instr, u8), DecodeError>
+    ensures row { IsDecoded w0 w1 result }
+    ensures encodable { IfOk result (λ found. IsEncodable found.0) }
+    ensures count { IfOk result (λ found. (1 ≤ found.1) × (found.1 ≤ word_count w1)) }
+{
+    let begun = match first_word(w0) {
+        FirstWord::Whole(instruction) => return Ok((instruction, 1)),
+        FirstWord::Begun(long) => long,
+        FirstWord::Undefined => return Err(DecodeError::Undefined(w0)),
+    };
     match w1 {
-        Some(_) => Err(DecodeError::Undefined(w0)),
+        Some(second) => Ok((begun.completed(second), 2)),
         None => Err(DecodeError::NeedsSecond),
     }
 }

@@ -1,24 +1,180 @@
 //! From the instruction to its words.
+#![tactic(auto, using(crate::proofs::Rows::Registers::registers, crate::proofs::Rows::Constants::constants, crate::proofs::Rows::Memory::memory, crate::proofs::Rows::Single::single, crate::proofs::Rows::Jumps::jumps, crate::proofs::Rows::Bits::bits), unfolding(crate::specs::Operands::IsEncodable))]
 
-use crate::instruction::Instr;
-
-ghost use Rattle.std.specs.Prelude.{◌≡◌, ◌<◌, ◌^◌, ℕ, Option};
+ghost use Rattle.std.specs.Prelude.{◌≡◌, ◌≤◌, ℕ, Option};
 ghost use Rattle.avr_isa.specs.Decoded.{decoded};
-ghost use Rattle.avr_isa.specs.Laws.{kept};
+ghost use Rattle.avr_isa.specs.Laws.{AreWords, kept};
 ghost use Rattle.avr_isa.specs.Operands.{IsEncodable};
+ghost use Rattle.avr_isa.specs.Place.{IsFirstWordOf, place, second_word};
 ghost use Rattle.avr_isa.specs.Table.{Row, word_count};
 
+use crate::formats::{
+    branch, far_jump, one_register, pair_and_constant, port_bit, register_and_constant,
+    register_and_port, register_bit, relative_jump, two_halves, two_registers, with_displacement,
+};
+use crate::instruction::Instr;
+
 /// The words of an instruction. The second is `None` where it has one word.
+#[tactic(auto, using(crate::proofs::Spelled::spelled))]
 pub fn encode(i: &Instr) -> (u16, Option<u16>)
     requires { IsEncodable i.now }
     ensures row { Row result.0 result.1 i.now (word_count result.1) }
 
     // Decoded, they give the instruction again; and no other words do.
     ensures decodes { decoded result.0 result.1 ≡ Ok (i.now, word_count result.1) }
-    ensures only { (first : ℕ) (second : Option ℕ) (n : ℕ) → first < 2 ^ 16 → Row first second i.now n → result ≡ (first, kept n second) }
+    ensures only { (first : ℕ) (second : Option ℕ) (n : ℕ) → AreWords first second → Row first second i.now n → result ≡ (first, kept n second) }
 {
-    match i {
-        Instr::Nop => (0, None),
-        _ => (1, None),
+    words(i)
+}
+
+fn words(i: &Instr) -> (u16, Option<u16>)
+    requires { IsEncodable i.now }
+    ensures row { Row result.0 result.1 i.now (word_count result.1) }
+    ensures words { AreWords result.0 result.1 }
+{
+    (first_word(i), second(i))
+}
+
+/// The second word of an instruction that has one.
+fn second(i: &Instr) -> Option<u16>
+    ensures { result ≡ second_word i.now }
+{
+    match *i {
+        Instr::Lds(_, k) | Instr::Sts(_, k) => Some(k),
+        Instr::Jmp(k) | Instr::Call(k) => Some((k % 0x1_0000) as u16),
+        _ => None,
+    }
+}
+
+/// The first word. The instructions come in the order of the table; each function below takes the next
+/// lines, and passes the later ones on. Here are those of two registers, or of a register and a constant.
+fn first_word(i: &Instr) -> u16
+    requires { IsEncodable i.now }
+    ensures { IsFirstWordOf result i.now }
+{
+    match *i {
+        Instr::Nop => 0,
+        Instr::Movw(d, r) => two_halves(1, d / 2, r / 2),
+        Instr::Muls(d, r) => two_halves(2, d - 16, r - 16),
+        Instr::Mulsu(d, r) => two_halves(3, d - 16, r - 16),
+        Instr::Fmul(d, r) => two_halves(3, d - 16, r - 8),
+        Instr::Fmuls(d, r) => two_halves(3, d - 8, r - 16),
+        Instr::Fmulsu(d, r) => two_halves(3, d - 8, r - 8),
+        Instr::Cpc(d, r) => two_registers(1, d, r),
+        Instr::Sbc(d, r) => two_registers(2, d, r),
+        Instr::Add(d, r) => two_registers(3, d, r),
+        Instr::Cpse(d, r) => two_registers(4, d, r),
+        Instr::Cp(d, r) => two_registers(5, d, r),
+        Instr::Sub(d, r) => two_registers(6, d, r),
+        Instr::Adc(d, r) => two_registers(7, d, r),
+        Instr::And(d, r) => two_registers(8, d, r),
+        Instr::Eor(d, r) => two_registers(9, d, r),
+        Instr::Or(d, r) => two_registers(10, d, r),
+        Instr::Mov(d, r) => two_registers(11, d, r),
+        Instr::Cpi(d, constant) => register_and_constant(3, d, constant),
+        Instr::Sbci(d, constant) => register_and_constant(4, d, constant),
+        Instr::Subi(d, constant) => register_and_constant(5, d, constant),
+        Instr::Ori(d, constant) => register_and_constant(6, d, constant),
+        Instr::Andi(d, constant) => register_and_constant(7, d, constant),
+        _ => first_word_from_loads(i),
+    }
+}
+
+/// The first word from the loads on. Here are the loads and stores.
+fn first_word_from_loads(i: &Instr) -> u16
+    requires operands { IsEncodable i.now }
+    requires further { 23 ≤ place i.now }
+    ensures { IsFirstWordOf result i.now }
+{
+    match *i {
+        Instr::LddZ(d, q) => with_displacement(0, 0, d, q),
+        Instr::LddY(d, q) => with_displacement(0, 1, d, q),
+        Instr::StdZ(r, q) => with_displacement(1, 0, r, q),
+        Instr::StdY(r, q) => with_displacement(1, 1, r, q),
+        Instr::Lds(d, _) => one_register(72, d, 0),
+        Instr::LdZInc(d) => one_register(72, d, 1),
+        Instr::LdZDec(d) => one_register(72, d, 2),
+        Instr::LpmZ(d) => one_register(72, d, 4),
+        Instr::LpmZInc(d) => one_register(72, d, 5),
+        Instr::ElpmZ(d) => one_register(72, d, 6),
+        Instr::ElpmZInc(d) => one_register(72, d, 7),
+        Instr::LdYInc(d) => one_register(72, d, 9),
+        Instr::LdYDec(d) => one_register(72, d, 10),
+        Instr::LdX(d) => one_register(72, d, 12),
+        Instr::LdXInc(d) => one_register(72, d, 13),
+        Instr::LdXDec(d) => one_register(72, d, 14),
+        Instr::Pop(d) => one_register(72, d, 15),
+        Instr::Sts(r, _) => one_register(73, r, 0),
+        Instr::StZInc(r) => one_register(73, r, 1),
+        Instr::StZDec(r) => one_register(73, r, 2),
+        Instr::StYInc(r) => one_register(73, r, 9),
+        Instr::StYDec(r) => one_register(73, r, 10),
+        Instr::StX(r) => one_register(73, r, 12),
+        Instr::StXInc(r) => one_register(73, r, 13),
+        Instr::StXDec(r) => one_register(73, r, 14),
+        Instr::Push(r) => one_register(73, r, 15),
+        _ => first_word_from_one_register(i),
+    }
+}
+
+/// The first word from COM on. Here are those of one register, of a flag, and of no operand.
+fn first_word_from_one_register(i: &Instr) -> u16
+    requires operands { IsEncodable i.now }
+    requires further { 49 ≤ place i.now }
+    ensures { IsFirstWordOf result i.now }
+{
+    match *i {
+        Instr::Com(d) => one_register(74, d, 0),
+        Instr::Neg(d) => one_register(74, d, 1),
+        Instr::Swap(d) => one_register(74, d, 2),
+        Instr::Inc(d) => one_register(74, d, 3),
+        Instr::Asr(d) => one_register(74, d, 5),
+        Instr::Lsr(d) => one_register(74, d, 6),
+        Instr::Ror(d) => one_register(74, d, 7),
+        Instr::Dec(d) => one_register(74, d, 10),
+        Instr::Bset(s) => one_register(74, s, 8),
+        Instr::Bclr(s) => one_register(74, 8 + s, 8),
+        Instr::Ijmp => 0x9409,
+        Instr::Icall => 0x9509,
+        Instr::Ret => 0x9508,
+        Instr::Reti => 0x9518,
+        Instr::Sleep => 0x9588,
+        Instr::Break => 0x9598,
+        Instr::Wdr => 0x95A8,
+        Instr::LpmR0 => 0x95C8,
+        Instr::ElpmR0 => 0x95D8,
+        Instr::Spm => 0x95E8,
+        Instr::Jmp(k) => far_jump(6, (k / 0x1_0000) as u16),
+        Instr::Call(k) => far_jump(7, (k / 0x1_0000) as u16),
+        _ => first_word_from_pairs(i),
+    }
+}
+
+/// The first word from ADIW on.
+fn first_word_from_pairs(i: &Instr) -> u16
+    requires operands { IsEncodable i.now }
+    requires further { 71 ≤ place i.now }
+    ensures { IsFirstWordOf result i.now }
+{
+    match *i {
+        Instr::Adiw(d, constant) => pair_and_constant(0x96, d, constant),
+        Instr::Sbiw(d, constant) => pair_and_constant(0x97, d, constant),
+        Instr::Cbi(port, bit) => port_bit(0x98, port, bit),
+        Instr::Sbic(port, bit) => port_bit(0x99, port, bit),
+        Instr::Sbi(port, bit) => port_bit(0x9A, port, bit),
+        Instr::Sbis(port, bit) => port_bit(0x9B, port, bit),
+        Instr::Mul(d, r) => two_registers(39, d, r),
+        Instr::In(d, port) => register_and_port(22, d, port),
+        Instr::Out(r, port) => register_and_port(23, r, port),
+        Instr::Rjmp(offset) => relative_jump(12, offset),
+        Instr::Rcall(offset) => relative_jump(13, offset),
+        Instr::Ldi(d, constant) => register_and_constant(14, d, constant),
+        Instr::Brbs(bit, offset) => branch(60, bit, offset),
+        Instr::Brbc(bit, offset) => branch(61, bit, offset),
+        Instr::Bld(d, bit) => register_bit(124, d, bit),
+        Instr::Bst(d, bit) => register_bit(125, d, bit),
+        Instr::Sbrc(r, bit) => register_bit(126, r, bit),
+        Instr::Sbrs(r, bit) => register_bit(127, r, bit),
+        _ => unreachable!(),
     }
 }

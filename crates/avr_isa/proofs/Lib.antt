@@ -1,0 +1,10 @@
+pub mod Apart
+pub mod Encodable
+pub mod Exact
+pub mod Outcome
+pub mod Place
+pub mod Rows
+pub mod Spelled
+pub mod TableLaws
+pub mod Undefined
+pub mod Unique
