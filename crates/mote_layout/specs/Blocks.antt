@@ -1,7 +1,7 @@
 -- The blocks of the heap and who holds them: a sorted list of segments.
-use Rattle.std.specs.Prelude.{◌≡◌, ℕ, ◌+◌, ◌*◌, ◌≤◌, ◌<◌, ◌⊎◌, ◌==◌, ◌&&◌, ⊤, Bool, not, nat_le, nat_lt, List, [], ◌∷◌, map, filter, find, Option, if◌then◌else◌}
+use Rattle.std.specs.Prelude.{◌≡◌, ℕ, ◌+◌, ◌-◌, ◌*◌, ◌/◌, ◌≤◌, ◌<◌, ◌⊎◌, ◌==◌, ◌&&◌, ⊤, Bool, not, nat_le, nat_lt, List, [], ◌∷◌, map, filter, find, Option, if◌then◌else◌}
 use Rattle.std.specs.Option.{option_map_or}
-use Rattle.mote_layout.specs.Memory.{block_count, block_bytes, heap_start, kernel}
+use Rattle.mote_layout.specs.Memory.{block_count, block_bytes, heap_start, heap_end, kernel}
 use Rattle.mote_layout.specs.declared.segment.Segment.{Segment}
 
 -- A segment may stand behind the blocks below `low`: it begins there or later, has a block at least,
@@ -42,7 +42,7 @@ segment_at ss address = find (λ s. covers s address) ss
 
 -- the owner of an address; what no segment has counts as the kernel's
 abbrev pub owner_at : List Segment → ℕ → ℕ
-owner_at ss address = option_map_or (λ (s : Segment). s.owner) kernel (segment_at ss address)
+owner_at ss address = option_map_or (λ (s : Segment). s.owner) (segment_at ss address) kernel
 
 -- the segment that begins with a block, if there is one
 abbrev pub starting_at : List Segment → ℕ → Option Segment
@@ -57,6 +57,14 @@ AreFree (s ∷ ss) first count =
 -- The `count` blocks from `first` on are blocks of the heap and free.
 abbrev pub Fits : List Segment → ℕ → ℕ → Type 0
 Fits ss first count = (first + count ≤ block_count) × AreFree ss first count
+
+-- the block in which an address of the heap lies
+abbrev pub block_of : ℕ → ℕ
+block_of address = (address - heap_start) / block_bytes
+
+-- The address is outside the heap, or its block is free.
+abbrev pub IsFreeAddress : List Segment → ℕ → Type 0
+IsFreeAddress ss address = (address < heap_start) ⊎ ((heap_end < address) ⊎ AreFree ss (block_of address) 1)
 
 -- the segments with one more at its place
 abbrev pub inserted : Segment → List Segment → List Segment

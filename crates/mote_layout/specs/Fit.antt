@@ -1,5 +1,6 @@
 -- Where a request for blocks is placed: the lowest run of free blocks that is long enough.
-use Rattle.std.specs.Prelude.{◌≡◌, ℕ, zero, suc, ◌+◌, ◌/◌, ◌-◌, ◌<◌, ◌||◌, ◌&&◌, Bool, cond, nat_le, list_all, List, Option, Some, None}
+use Rattle.std.specs.Prelude.{ℕ, zero, suc, ◌+◌, ◌/◌, ◌-◌, ◌<◌, ◌||◌, ◌&&◌, Bool, cond, nat_le, List, Option, Some, None}
+use Rattle.std.specs.List.{list_all}
 use Rattle.mote_layout.specs.Memory.{block_count, block_bytes}
 use Rattle.mote_layout.specs.Blocks.{Fits}
 use Rattle.mote_layout.specs.declared.segment.Segment.{Segment}

@@ -9,30 +9,35 @@
 //! The definitions of `specs/` write each number themselves, and the laws `memory_is_as_defined`,
 //! `limits_are_as_defined` and `page_is_as_defined` say that the constants are those numbers.
 //! `entry_of` is exact. *Blocks* (`specs/Blocks.antt`), *Least fit* (`specs/Fit.antt`) and
-//! *Permitted store* (`specs/Store.antt`) are defined here over lists, for the crates above.
+//! *Permitted store* (`specs/Store.antt`) are defined here over lists, for the crates above, with their
+//! laws in `blocks_laws` and `least_fit_laws`.
 #![tactic(auto)]
 
+mod laws;
 mod limits;
 mod memory;
 mod page;
 mod segment;
+#[cfg(test)]
+mod tests;
 
+pub use laws::{blocks_laws, least_fit_laws};
 pub use limits::{
-    DEFAULT_HANDLER_UNITS, DEFAULT_UNITS, EVENTS, FRAMES, IMAGES, IMAGE_BYTES, LINES_PER_TURN,
-    LINE_BYTES, MAX_HANDLER_UNITS, MAX_UNITS, PAYLOAD_BYTES, PROVIDED, QUEUE_MESSAGES, SCRIPT_BYTES,
-    SUBSCRIBED, TIMERS, limits_are_as_defined,
+    DEFAULT_HANDLER_UNITS, DEFAULT_UNITS, EVENTS, FRAMES, IMAGE_BYTES, IMAGES, LINE_BYTES,
+    LINES_PER_TURN, MAX_HANDLER_UNITS, MAX_UNITS, PAYLOAD_BYTES, PROVIDED, QUEUE_MESSAGES,
+    SCRIPT_BYTES, SUBSCRIBED, TIMERS, limits_are_as_defined,
 };
 pub use memory::{
-    BANKS_START, BANK_WORDS, BLOCKS, BLOCK_BYTES, DOMAINS, FLOOR, HEAP_END, HEAP_START, KERNEL,
+    BANK_WORDS, BANKS_START, BLOCK_BYTES, BLOCKS, DOMAINS, FLOOR, HEAP_END, HEAP_START, KERNEL,
     KERNEL_BYTES_END, KERNEL_BYTES_START, MESSAGE_FRAME, MESSAGE_FRAME_BYTES, RAM_BYTES, RAM_END,
     RAM_START, RED_ZONE_END, RED_ZONE_START, REGISTERS, SPH, SPL, SREG, STACK_START, STACK_TOP,
     memory_is_as_defined,
 };
 pub use page::{
-    DISPLACEMENTS, Entry, KERNEL_CALLS, KERNEL_ENTRIES, LOCAL_CALL_ENTRY, PAGE_START, POP_GUARD, PUSH_GUARD,
-    RESERVE_ENTRY, RETURN_ENTRY, SLOTS, SLOT_ENTRIES, SLOT_INDIRECT_ENTRY, SP_GUARD, STORE_STS_GUARD,
-    STORE_X_DEC_GUARD, STORE_X_GUARD, STORE_X_INC_GUARD, STORE_Y_DEC_GUARD, STORE_Y_GUARDS,
-    STORE_Y_INC_GUARD, STORE_Z_DEC_GUARD, STORE_Z_GUARDS, STORE_Z_INC_GUARD, entry_of,
-    page_is_as_defined,
+    DISPLACEMENTS, Entry, KERNEL_CALLS, KERNEL_ENTRIES, LOCAL_CALL_ENTRY, PAGE_START, POP_GUARD,
+    PUSH_GUARD, RESERVE_ENTRY, RETURN_ENTRY, SLOT_ENTRIES, SLOT_INDIRECT_ENTRY, SLOTS, SP_GUARD,
+    STORE_STS_GUARD, STORE_X_DEC_GUARD, STORE_X_GUARD, STORE_X_INC_GUARD, STORE_Y_DEC_GUARD,
+    STORE_Y_GUARDS, STORE_Y_INC_GUARD, STORE_Z_DEC_GUARD, STORE_Z_GUARDS, STORE_Z_INC_GUARD,
+    entry_of, page_is_as_defined,
 };
 pub use segment::Segment;

@@ -68,5 +68,4 @@ pub fn limits_are_as_defined()
 
     // What a run writes.
     ensures lines { (LINES_PER_TURN ≡ line_limit) × (LINE_BYTES ≡ line_bytes) }
-{
-}
+{}

@@ -95,15 +95,12 @@ pub fn memory_is_as_defined()
     ensures stack { (STACK_START ≡ stack_start) × (STACK_TOP ≡ stack_top) × (FLOOR ≡ floor) }
 
     // The parts of the SRAM stand one after the other and fill it.
-    ensures filled {
-        (MESSAGE_FRAME ≡ RAM_START) × (MESSAGE_FRAME + MESSAGE_FRAME_BYTES ≡ KERNEL_BYTES_START)
+    ensures filled { (MESSAGE_FRAME ≡ RAM_START) × (MESSAGE_FRAME + MESSAGE_FRAME_BYTES ≡ KERNEL_BYTES_START)
         × (KERNEL_BYTES_END + 1 ≡ HEAP_START) × (HEAP_START + BLOCKS * BLOCK_BYTES ≡ RED_ZONE_START)
         × (HEAP_END + 1 ≡ RED_ZONE_START) × (RED_ZONE_END + 1 ≡ STACK_START) × (STACK_TOP ≡ RAM_END)
-        × (RAM_START + RAM_BYTES ≡ RAM_END + 1)
-    }
+        × (RAM_START + RAM_BYTES ≡ RAM_END + 1) }
 
     // Domains, the kernel and the banks.
     ensures owners { (DOMAINS ≡ domain_count) × (KERNEL ≡ kernel) }
     ensures banks { (BANKS_START ≡ banks_start) × (BANK_WORDS ≡ bank_words) }
-{
-}
+{}

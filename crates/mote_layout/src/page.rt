@@ -3,7 +3,7 @@
 //! No word is kept there. A call of such an address is done by the kernel in place of a call.
 //! The page is this project's own.
 
-ghost use Rattle.std.specs.Prelude.{◌≡◌, ◌↔◌, ◌+◌, None, Some};
+ghost use Rattle.std.specs.Prelude.{◌≡◌, ◌↔◌, None, Some, IfNone, IfSome};
 ghost use Rattle.mote_layout.specs.Page.{StandsAt, IsInNoRow, entry_at, page_start, displacement_count, kernel_call_count, slot_count};
 
 /// The first address of the page. No code of a module reaches it.
@@ -76,8 +76,11 @@ pub const SLOT_ENTRIES: u16 = 0xF200;
 pub const SLOTS: u16 = 16;
 
 const LAST_STORE_Y_GUARD: u16 = STORE_Y_GUARDS + DISPLACEMENTS - 1;
+
 const LAST_STORE_Z_GUARD: u16 = STORE_Z_GUARDS + DISPLACEMENTS - 1;
+
 const LAST_KERNEL_ENTRY: u16 = KERNEL_ENTRIES + KERNEL_CALLS - 1;
+
 const LAST_SLOT_ENTRY: u16 = SLOT_ENTRIES + SLOTS - 1;
 
 /// What stands at an address of the entry page.
@@ -129,6 +132,13 @@ pub fn entry_of(address: u16) -> Option<Entry>
     ensures none { (result ≡ None) ↔ IsInNoRow address }
     ensures value { result ≡ entry_at address }
 {
+    row_of(address)
+}
+
+fn row_of(address: u16) -> Option<Entry>
+    ensures standing { IfSome result (λ e. StandsAt e address) }
+    ensures empty { IfNone result (IsInNoRow address) }
+{
     match address {
         STORE_X_GUARD => Some(Entry::StoreX),
         STORE_X_INC_GUARD => Some(Entry::StoreXInc),
@@ -165,33 +175,22 @@ pub fn page_is_as_defined()
     ensures start { PAGE_START ≡ page_start }
 
     // The guards of stores.
-    ensures stores_to_x {
-        StandsAt Entry.StoreX STORE_X_GUARD × StandsAt Entry.StoreXInc STORE_X_INC_GUARD
-        × StandsAt Entry.StoreXDec STORE_X_DEC_GUARD
-    }
-    ensures stores_to_y {
-        StandsAt Entry.StoreYInc STORE_Y_INC_GUARD × StandsAt Entry.StoreYDec STORE_Y_DEC_GUARD
-        × StandsAt (Entry.StoreY 0) STORE_Y_GUARDS
-    }
-    ensures stores_to_z {
-        StandsAt Entry.StoreZInc STORE_Z_INC_GUARD × StandsAt Entry.StoreZDec STORE_Z_DEC_GUARD
-        × StandsAt (Entry.StoreZ 0) STORE_Z_GUARDS
-    }
+    ensures stores_to_x { StandsAt Entry.StoreX STORE_X_GUARD × StandsAt Entry.StoreXInc STORE_X_INC_GUARD
+        × StandsAt Entry.StoreXDec STORE_X_DEC_GUARD }
+    ensures stores_to_y { StandsAt Entry.StoreYInc STORE_Y_INC_GUARD × StandsAt Entry.StoreYDec STORE_Y_DEC_GUARD
+        × StandsAt (Entry.StoreY 0) STORE_Y_GUARDS }
+    ensures stores_to_z { StandsAt Entry.StoreZInc STORE_Z_INC_GUARD × StandsAt Entry.StoreZDec STORE_Z_DEC_GUARD
+        × StandsAt (Entry.StoreZ 0) STORE_Z_GUARDS }
     ensures displacements { DISPLACEMENTS ≡ displacement_count }
     ensures stores_to_words { StandsAt Entry.StoreSts STORE_STS_GUARD }
 
     // The guards of the stack.
-    ensures stack {
-        StandsAt Entry.PushGuard PUSH_GUARD × StandsAt Entry.PopGuard POP_GUARD
-        × StandsAt Entry.SpGuard SP_GUARD × StandsAt Entry.Reserve RESERVE_ENTRY
-    }
+    ensures stack { StandsAt Entry.PushGuard PUSH_GUARD × StandsAt Entry.PopGuard POP_GUARD
+        × StandsAt Entry.SpGuard SP_GUARD × StandsAt Entry.Reserve RESERVE_ENTRY }
 
     // Calls and the return.
-    ensures calls {
-        StandsAt Entry.LocalCall LOCAL_CALL_ENTRY × StandsAt Entry.SlotIndirect SLOT_INDIRECT_ENTRY
-        × StandsAt Entry.Return RETURN_ENTRY
-    }
+    ensures calls { StandsAt Entry.LocalCall LOCAL_CALL_ENTRY × StandsAt Entry.SlotIndirect SLOT_INDIRECT_ENTRY
+        × StandsAt Entry.Return RETURN_ENTRY }
     ensures kernel_calls { StandsAt (Entry.Kernel 0) KERNEL_ENTRIES × (KERNEL_CALLS ≡ kernel_call_count) }
     ensures slots { StandsAt (Entry.Slot 0) SLOT_ENTRIES × (SLOTS ≡ slot_count) }
-{
-}
+{}

@@ -1,0 +1,3 @@
+pub mod BlockLists
+pub mod EntryPage
+pub mod LeastFit

@@ -1,0 +1,24 @@
+//! The check of a store.
+
+ghost use Rattle.std.specs.Prelude.{◌↔◌, IsTrue};
+ghost use Rattle.mote_layout.specs.Blocks.{Owns};
+ghost use Rattle.mote_layout.specs.Store.{MayStore};
+
+use crate::Window;
+use memory_map::MemoryMap;
+
+/// Whether domain `d` may store to the address `a`.
+///
+/// A free block has no owner, so it is not the kernel's here: its address is refused for every `d`.
+pub fn check_store(map: &MemoryMap, win: &Window, d: u8, a: u16) -> bool
+    ensures permitted { IsTrue result ↔ MayStore map.now d win.now.sp win.now.bound a }
+{
+    owns(map, d, a) || (win.sp < a && a <= win.bound)
+}
+
+/// Whether an address lies in a block of domain `d`.
+fn owns(map: &MemoryMap, d: u8, a: u16) -> bool
+    ensures { IsTrue result ↔ Owns map.now d a }
+{
+    map.segment_at(a).is_some_and(|segment| segment.owner == d)
+}
