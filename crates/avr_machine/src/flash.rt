@@ -1,7 +1,7 @@
 //! The program memory: a bank of words for each domain.
-ghost use Rattle.std.specs.Prelude.{◌≡◌, ◌≤◌, ◌<◌, [], length, slice_set, IfOk, IsOk};
-ghost use Rattle.mote_layout.specs.Memory.{bank_words, domain_count};
-ghost use Rattle.avr_machine.specs.Flash.{no_banks, word_at};
+ghost use Rattle.std.specs.Prelude.{◌≡◌, ◌+◌, ◌≤◌, ◌<◌, ℕ, [], length, slice_index, slice_set, IfOk, IsOk};
+ghost use Rattle.mote_layout.specs.Memory.{bank_start, bank_words, domain_count};
+ghost use Rattle.avr_machine.specs.Flash.{IsInBank, IsInSomeBank, no_banks, word_at};
 ghost use Rattle.avr_machine.specs.Step.{Fetches, fetched};
 ghost use Rattle.avr_isa.specs.Operands.{IsEncodable};
 
@@ -64,9 +64,10 @@ impl Model for Flash {
 
 impl Flash {
     /// Flash that is 0 everywhere. It takes the memory of all banks at once.
-    #[tactic(auto, unfolding(crate::specs::Flash::no_banks))]
+    #[tactic(auto, using(crate::proofs::BankLemmas::no_word), unfolding(crate::specs::Flash::no_banks))]
     pub fn new(alloc: Global) -> Result<Flash, NoMemory>
-        ensures { IfOk result (λ flash. flash ≡ no_banks) }
+        ensures empty { IfOk result (λ flash. flash ≡ no_banks) }
+        ensures zeros { IfOk result (λ flash. (a : ℕ) → word_at flash a ≡ 0) }
     {
         let mut banks = Vec::new(alloc);
         for _domain in 0..DOMAINS {
@@ -76,8 +77,17 @@ impl Flash {
     }
 
     /// The word at an address, 0 outside the banks.
-    #[tactic(auto, unfolding(crate::specs::Flash::word_at))]
+    #[tactic(auto, using(crate::proofs::BankLemmas::outside_word))]
     pub fn word(&self, a: u16) -> u16
+        ensures value { result ≡ word_at self.now a }
+        ensures outside { ¬ IsInSomeBank a → result ≡ 0 }
+    {
+        let _ = &self.banks;
+        self.read(a)
+    }
+
+    #[tactic(auto, unfolding(crate::specs::Flash::word_at))]
+    fn read(&self, a: u16) -> u16
         ensures { result ≡ word_at self.now a }
     {
         if a < BANKS_START {
@@ -92,18 +102,26 @@ impl Flash {
     }
 
     /// Puts code into a domain's bank. Behind the code the bank is 0.
+    #[tactic(auto, using(crate::proofs::BankLemmas::filled_word, crate::proofs::BankLemmas::other_word))]
     pub fn fill_bank(&mut self, d: u8, code: &[u16])
         requires domain { d < domain_count }
         requires room { length code.now ≤ bank_words }
-        ensures { self.new ≡ slice_set self.old d code.now }
+        ensures bank { self.new ≡ slice_set self.old d code.now }
+
+        // The words come first, and 0 behind them; what is not in the bank stays.
+        ensures words { (k : ℕ) → k < bank_words → word_at self.new (bank_start d + k) ≡ slice_index code.now k }
+        ensures others { (a : ℕ) → ¬ IsInBank d a → word_at self.new a ≡ word_at self.old a }
     {
         self.banks[usize::from(d)].fill(code);
     }
 
     /// Makes a domain's bank 0.
+    #[tactic(auto, using(crate::proofs::BankLemmas::cleared_word, crate::proofs::BankLemmas::other_word))]
     pub fn clear_bank(&mut self, d: u8)
         requires { d < domain_count }
-        ensures { self.new ≡ slice_set self.old d [] }
+        ensures bank { self.new ≡ slice_set self.old d [] }
+        ensures words { (k : ℕ) → k < bank_words → word_at self.new (bank_start d + k) ≡ 0 }
+        ensures others { (a : ℕ) → ¬ IsInBank d a → word_at self.new a ≡ word_at self.old a }
     {
         self.banks[usize::from(d)].fill(&[]);
     }
