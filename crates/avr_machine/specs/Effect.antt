@@ -117,7 +117,6 @@ goes_where false address = []
 -- the operations on one bit of a port have no effect here: no condition of this crate admits them.
 unfoldable pub writes : Instr → ℕ → Processor → List Write
 writes Nop over p = []
-
 writes (Add d r) over p = added p d (register p r) false
 writes (Adc d r) over p = added p d (register p r) (carry p)
 writes (Sub d r) over p = subtracted p d (register p r) false
@@ -152,18 +151,15 @@ writes (Adiw d K) over p =
 writes (Sbiw d K) over p =
     set_pair d (word_sub_value (pair p d) K)
     ∷ set_sreg (sreg_of (word_sub_flags (pair p d) K (flags_of p.sreg))) ∷ []
-
 writes (Bset s) over p = set_sreg (with_bit p.sreg s true) ∷ []
 writes (Bclr s) over p = set_sreg (with_bit p.sreg s false) ∷ []
 writes (Bst d b) over p = set_sreg (with_bit p.sreg 6 (is_set (register p d) b)) ∷ []
 writes (Bld d b) over p = set_register d (with_bit (register p d) b (transfer p)) ∷ []
-
 writes (Mov d r) over p = set_register d (register p r) ∷ []
 writes (Movw d r) over p = set_pair d (pair p r) ∷ []
 writes (Ldi d K) over p = set_register d K ∷ []
 writes (In d A) over p = set_register d (data_read p (A + 0x20)) ∷ []
 writes (Out r A) over p = set_port A (register p r) ∷ []
-
 writes (LdX d) over p = load_behind p x d 0
 writes (LdXInc d) over p = load_rising p x d
 writes (LdXDec d) over p = load_falling p x d
@@ -174,7 +170,6 @@ writes (LddZ d q) over p = load_behind p z d q
 writes (LdZInc d) over p = load_rising p z d
 writes (LdZDec d) over p = load_falling p z d
 writes (Lds d k) over p = set_register d (data_read p k) ∷ []
-
 writes (StX r) over p = store_behind p x r 0
 writes (StXInc r) over p = store_rising p x r
 writes (StXDec r) over p = store_falling p x r
@@ -185,10 +180,8 @@ writes (StdZ r q) over p = store_behind p z r q
 writes (StZInc r) over p = store_rising p z r
 writes (StZDec r) over p = store_falling p z r
 writes (Sts r k) over p = set_byte k (register p r) ∷ []
-
 writes (Push r) over p = pushed p (register p r)
 writes (Pop d) over p = set_sp (raised p.sp) ∷ set_register d (popped p) ∷ []
-
 writes (Rjmp k) over p = set_pc (moved p k) ∷ []
 writes (Jmp k) over p = set_pc (k % 65536) ∷ []
 writes (Rcall k) over p = called p (moved p k)
@@ -199,7 +192,6 @@ writes (Brbc s k) over p = goes_where (not (is_set p.sreg s)) (moved p k)
 writes (Cpse d r) over p = goes_where (register p d == register p r) over
 writes (Sbrc r b) over p = goes_where (not (is_set (register p r) b)) over
 writes (Sbrs r b) over p = goes_where (is_set (register p r) b) over
-
 writes _ over p = []
 
 -- the processor after the instruction

@@ -8,14 +8,14 @@ ghost use Rattle.avr_alu.specs.Flags.{flags_of, sreg_of};
 ghost use Rattle.avr_alu.specs.One.{one_value};
 ghost use Rattle.avr_alu.specs.Word.{word_add_value, word_add_flags, word_sub_value, word_sub_flags};
 
+use crate::cpu::Cpu;
 use avr_alu::{
     Logic, Mul, One, add8, is_set, logic8, mul8, one8, sub8, with_bit, word_add, word_sub,
 };
 
-use crate::cpu::Cpu;
-
 /// The numbers of the flags C and T in SREG.
 const CARRY: u8 = 0;
+
 const TRANSFER: u8 = 6;
 
 impl Cpu {

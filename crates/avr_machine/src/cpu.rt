@@ -4,12 +4,11 @@ ghost use Rattle.avr_machine.specs.Processor.{no_processor};
 ghost use Rattle.avr_machine.specs.DataRead.{IsInMemory, data_read};
 ghost use Rattle.avr_machine.specs.Write.{set_byte, written};
 
+use crate::parts::{high, low};
 use mote_base::NoMemory;
 use mote_layout::{RAM_BYTES, RAM_END, RAM_START, REGISTERS, SPH, SPL, SREG};
 use std::alloc::Global;
 use std::marker::Model;
-
-use crate::parts::{high, low};
 
 /// The processor.
 #[derive(Drop)]

@@ -98,7 +98,10 @@ impl Flash {
             return 0;
         };
         let words = &bank.words;
-        words.get(usize::from(place % BANK_WORDS)).copied().unwrap_or(0)
+        words
+            .get(usize::from(place % BANK_WORDS))
+            .copied()
+            .unwrap_or(0)
     }
 
     /// Puts code into a domain's bank. Behind the code the bank is 0.

@@ -7,7 +7,9 @@ use crate::cpu::Cpu;
 
 /// The lower registers of the pointers X, Y and Z.
 pub(crate) const X: u8 = 26;
+
 pub(crate) const Y: u8 = 28;
+
 pub(crate) const Z: u8 = 30;
 
 /// The low byte of a word.

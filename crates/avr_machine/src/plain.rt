@@ -7,11 +7,10 @@ ghost use Rattle.avr_isa.specs.Place.{place};
 ghost use Rattle.avr_machine.specs.Conditions.{IsStraight, StoresInside};
 ghost use Rattle.avr_machine.specs.Effect.{effect};
 
-use avr_alu::{Logic, Mul, One};
-use avr_isa::Instr;
-
 use crate::cpu::Cpu;
 use crate::parts::{X, Y, Z};
+use avr_alu::{Logic, Mul, One};
+use avr_isa::Instr;
 
 impl Cpu {
     /// Runs an instruction that leads to the next one. PC stays.

@@ -4,13 +4,12 @@ ghost use Rattle.avr_isa.specs.declared.instruction.Instr.{Instr};
 ghost use Rattle.avr_isa.specs.Operands.{IsEncodable};
 ghost use Rattle.avr_machine.specs.Effect.{effect};
 
-use avr_alu::is_set;
-use avr_isa::Instr;
-use mote_layout::PAGE_START;
-
 use crate::cpu::Cpu;
 use crate::flash::Flash;
 use crate::flow::word_address;
+use avr_alu::is_set;
+use avr_isa::Instr;
+use mote_layout::PAGE_START;
 
 /// Where a step led.
 #[derive(Clone, Copy, Debug, PartialEq, Eq)]

@@ -13,7 +13,9 @@ const PORTS_START: u16 = 0x20;
 
 /// The ports of SP's bytes and of SREG.
 const SPL_PORT: u8 = 0x3D;
+
 const SPH_PORT: u8 = 0x3E;
+
 const SREG_PORT: u8 = 0x3F;
 
 impl Cpu {
