@@ -1,10 +1,10 @@
 -- The words of a bank that was filled, and of the others.
-use Rattle.std.proofs.Common.{◌≡◌, ◌≢◌, ℕ, ◌+◌, ◌-◌, ◌*◌, ◌/◌, ◌%◌, ◌<◌, ◌≤◌, Bool, true, false, cond, List, [], length, replicate, get_or, refl, sym, ap, ◌∙◌, inl, inr, arith}
+use Rattle.std.proofs.Common.{◌≡◌, ◌≢◌, ℕ, ◌+◌, ◌-◌, ◌/◌, ◌%◌, ◌<◌, ◌≤◌, Bool, true, false, cond, List, [], length, replicate, get_or, refl, sym, ap, ◌∙◌, inl, inr, arith}
 use Rattle.std.specs.Prelude.{slice_index, slice_index_or, slice_set, nat_lt}
 use Rattle.std.proofs.lemmas.Bool.{cases_lt, cond_above, ltb-false}
 use Rattle.std.proofs.lemmas.List.{get_or-set_same, get_or-set_other, get_or-replicate, get_or_past, length-replicate}
 use Rattle.mote_layout.specs.Memory.{domain_count, banks_start, bank_words, bank_start}
-use Rattle.avr_machine.specs.Flash.{Banks, word_at, IsInBank, IsInSomeBank, no_banks}
+use Rattle.avr_machine.specs.Flash.{Banks, word_at, IsInBank, IsInSomeBank}
 
 -- two choices with the same test are equal if what they choose where it fails is
 cond_same : (b : Bool) (k m n : ℕ) → (b ≡ false → m ≡ n) → cond b k m ≡ cond b k n

@@ -1,5 +1,5 @@
 -- What a load reads at an address of the data space.
-use Rattle.std.specs.Prelude.{ℕ, ◌-◌, ◌≤◌, ◌==◌, ◌&&◌, Bool, nat_le, nat_lt, slice_index, if◌then◌else◌}
+use Rattle.std.specs.Prelude.{ℕ, ◌-◌, ◌≤◌, ◌==◌, ◌&&◌, nat_le, nat_lt, slice_index, if◌then◌else◌}
 use Rattle.mote_layout.specs.Memory.{register_count, spl, sph, sreg, ram_start, ram_end}
 use Rattle.avr_machine.specs.Processor.{Processor, register, low, high}
 

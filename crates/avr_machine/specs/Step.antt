@@ -1,5 +1,5 @@
 -- One step: the instruction that stands at PC, and where it leads.
-use Rattle.std.specs.Prelude.{ℕ, ◌+◌, ◌%◌, ◌≡◌, Option, Some, Result, Ok, Err, IsOk, IsOkAnd, nat_le, if◌then◌else◌}
+use Rattle.std.specs.Prelude.{ℕ, ◌+◌, ◌%◌, ◌≡◌, Some, Result, Ok, Err, IsOk, IsOkAnd, nat_le, if◌then◌else◌}
 use Rattle.mote_layout.specs.Page.{page_start}
 use Rattle.avr_isa.specs.declared.instruction.Instr.{Instr}
 use Rattle.avr_isa.specs.declared.instruction.DecodeError.{DecodeError}

@@ -82,6 +82,7 @@ impl Flash {
         ensures value { result ≡ word_at self.now a }
         ensures outside { ¬ IsInSomeBank a → result ≡ 0 }
     {
+        // So that the proof knows how many banks there are.
         let _ = &self.banks;
         self.read(a)
     }

@@ -363,6 +363,7 @@ fn can_run(i: &Instr, cpu: &Cpu, next: bool) -> bool
     }
 }
 
+#[tactic(auto, unfolding(crate::specs::Step::fetched))]
 fn decodes(flash: &Flash, address: u16) -> bool
     ensures { IsTrue result → IsOk (fetched flash.now address) }
 {
