@@ -1,0 +1,7 @@
+pub mod Processor
+pub mod DataRead
+pub mod Write
+pub mod Effect
+pub mod Conditions
+pub mod Flash
+pub mod Step

@@ -1,0 +1,66 @@
+//! Single registers, pairs of registers as words, and the bytes of a word.
+ghost use Rattle.std.specs.Prelude.{◌≡◌, ◌+◌, ◌*◌, ◌%◌, ◌<◌};
+ghost use Rattle.avr_machine.specs.Processor as processor;
+ghost use Rattle.avr_machine.specs.Write.{set_register, set_pair, written};
+
+use crate::cpu::Cpu;
+
+/// The lower registers of the pointers X, Y and Z.
+pub(crate) const X: u8 = 26;
+
+pub(crate) const Y: u8 = 28;
+
+pub(crate) const Z: u8 = 30;
+
+/// The low byte of a word.
+pub(crate) fn low(word: u16) -> u8
+    ensures { result ≡ processor.low word }
+{
+    (word % 256) as u8
+}
+
+/// The high byte of a word.
+pub(crate) fn high(word: u16) -> u8
+    ensures { result ≡ processor.high word }
+{
+    (word / 256) as u8
+}
+
+/// The word that two bytes make.
+pub(crate) fn joined(low: u8, high: u8) -> u16
+    ensures { result ≡ low + 256 * high }
+{
+    u16::from(low) + 256 * u16::from(high)
+}
+
+impl Cpu {
+    pub(crate) fn register(&self, d: u8) -> u8
+        requires { d < 32 }
+        ensures { result ≡ processor.register self.now d }
+    {
+        self.regs[usize::from(d)]
+    }
+
+    pub(crate) fn set_register(&mut self, d: u8, value: u8)
+        requires { d < 32 }
+        ensures { self.new ≡ written (set_register d value) self.old }
+    {
+        self.regs[usize::from(d)] = value;
+    }
+
+    /// The word in a pair of registers, given by the lower one.
+    pub(crate) fn pair(&self, d: u8) -> u16
+        requires { d < 31 }
+        ensures { result ≡ processor.pair self.now d }
+    {
+        joined(self.register(d), self.register(d + 1))
+    }
+
+    pub(crate) fn set_pair(&mut self, d: u8, word: u16)
+        requires { d < 31 }
+        ensures { self.new ≡ written (set_pair d word) self.old }
+    {
+        self.set_register(d, low(word));
+        self.set_register(d + 1, high(word));
+    }
+}

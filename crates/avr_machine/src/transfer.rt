@@ -1,0 +1,140 @@
+//! Moves between registers, ports, the data space and the stack.
+ghost use Rattle.std.specs.Prelude.{◌≡◌, ◌+◌, ◌%◌, ◌<◌, [], ◌∷◌};
+ghost use Rattle.avr_machine.specs.Processor.{lowered, pair, raised, register};
+ghost use Rattle.avr_machine.specs.DataRead.{IsInMemory, data_read};
+ghost use Rattle.avr_machine.specs.Write.{after, set_byte, set_pair, set_port, set_register, set_sp};
+ghost use Rattle.avr_machine.specs.Effect.{load_behind, load_falling, load_rising, popped, pushed, store_behind, store_falling, store_rising};
+
+use crate::cpu::Cpu;
+use crate::parts::{high, joined, low};
+
+/// The data address of port 0.
+const PORTS_START: u16 = 0x20;
+
+/// The ports of SP's bytes and of SREG.
+const SPL_PORT: u8 = 0x3D;
+
+const SPH_PORT: u8 = 0x3E;
+
+const SREG_PORT: u8 = 0x3F;
+
+impl Cpu {
+    /// Loads the byte at an address.
+    pub(crate) fn load(&mut self, d: u8, address: u16)
+        requires { d < 32 }
+        ensures { self.new ≡ after (set_register d (data_read self.old address) ∷ []) self.old }
+    {
+        let byte = self.rd(address);
+        self.set_register(d, byte);
+    }
+
+    pub(crate) fn load_behind(&mut self, pointer: u8, d: u8, q: u8)
+        requires pointer { pointer < 31 }
+        requires register { d < 32 }
+        ensures { self.new ≡ after (load_behind self.old pointer d q) self.old }
+    {
+        let address = self.pair(pointer).wrapping_add(u16::from(q));
+        self.load(d, address);
+    }
+
+    pub(crate) fn load_rising(&mut self, pointer: u8, d: u8)
+        requires pointer { pointer < 31 }
+        requires register { d < 32 }
+        ensures { self.new ≡ after (load_rising self.old pointer d) self.old }
+    {
+        let address = self.pair(pointer);
+        self.load(d, address);
+        self.set_pair(pointer, address.wrapping_add(1));
+    }
+
+    pub(crate) fn load_falling(&mut self, pointer: u8, d: u8)
+        requires pointer { pointer < 31 }
+        requires register { d < 32 }
+        ensures { self.new ≡ after (load_falling self.old pointer d) self.old }
+    {
+        let address = self.pair(pointer).wrapping_sub(1);
+        self.set_pair(pointer, address);
+        self.load(d, address);
+    }
+
+    /// Stores a register at an address.
+    pub(crate) fn store(&mut self, address: u16, r: u8)
+        requires inside { IsInMemory address }
+        requires register { r < 32 }
+        ensures { self.new ≡ after (set_byte address (register self.old r) ∷ []) self.old }
+    {
+        let byte = self.register(r);
+        self.set_ram(address, byte);
+    }
+
+    pub(crate) fn store_behind(&mut self, pointer: u8, r: u8, q: u8)
+        requires pointer { pointer < 31 }
+        requires register { r < 32 }
+        requires inside { IsInMemory ((pair self.old pointer + q) % 65536) }
+        ensures { self.new ≡ after (store_behind self.old pointer r q) self.old }
+    {
+        let address = self.pair(pointer).wrapping_add(u16::from(q));
+        self.store(address, r);
+    }
+
+    pub(crate) fn store_rising(&mut self, pointer: u8, r: u8)
+        requires pointer { pointer < 31 }
+        requires register { r < 32 }
+        requires inside { IsInMemory (pair self.old pointer) }
+        ensures { self.new ≡ after (store_rising self.old pointer r) self.old }
+    {
+        let address = self.pair(pointer);
+        self.store(address, r);
+        self.set_pair(pointer, address.wrapping_add(1));
+    }
+
+    pub(crate) fn store_falling(&mut self, pointer: u8, r: u8)
+        requires pointer { pointer < 31 }
+        requires register { r < 32 }
+        requires inside { IsInMemory (lowered (pair self.old pointer)) }
+        ensures { self.new ≡ after (store_falling self.old pointer r) self.old }
+    {
+        let byte = self.register(r);
+        let address = self.pair(pointer).wrapping_sub(1);
+        self.set_pair(pointer, address);
+        self.set_ram(address, byte);
+    }
+
+    pub(crate) fn push(&mut self, byte: u8)
+        requires { IsInMemory self.old.sp }
+        ensures { self.new ≡ after (pushed self.old byte) self.old }
+    {
+        self.set_ram(self.sp, byte);
+        self.sp = self.sp.wrapping_sub(1);
+    }
+
+    /// The byte that was pushed last.
+    pub(crate) fn pop(&mut self) -> u8
+        ensures after { self.new ≡ after (set_sp (raised self.old.sp) ∷ []) self.old }
+        ensures byte { result ≡ popped self.old }
+    {
+        self.sp = self.sp.wrapping_add(1);
+        self.rd(self.sp)
+    }
+
+    pub(crate) fn input(&mut self, d: u8, port: u8)
+        requires { d < 32 }
+        ensures { self.new ≡ after (set_register d (data_read self.old (port + 0x20)) ∷ []) self.old }
+    {
+        self.load(d, PORTS_START + u16::from(port));
+    }
+
+    /// Puts a register into the port of a byte of SP or of SREG.
+    pub(crate) fn output(&mut self, r: u8, port: u8)
+        requires { r < 32 }
+        ensures { self.new ≡ after (set_port port (register self.old r) ∷ []) self.old }
+    {
+        let byte = self.register(r);
+        match port {
+            SPL_PORT => self.sp = joined(byte, high(self.sp)),
+            SPH_PORT => self.sp = joined(low(self.sp), byte),
+            SREG_PORT => self.sreg = byte,
+            _ => {}
+        }
+    }
+}
