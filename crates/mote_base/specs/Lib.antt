@@ -1,6 +1,7 @@
 pub mod Causes
 pub mod Counting
 pub mod Files
+pub mod Messages
 pub mod Shelves
 pub mod Sinks
 pub mod Table

@@ -8,6 +8,7 @@
 mod fault;
 mod files;
 mod memory;
+mod message;
 mod outside;
 mod sure;
 #[cfg(test)]
@@ -18,6 +19,7 @@ mod words;
 use arrayvec::ArrayVec;
 pub use fault::{Failed, NoMemory, Status};
 pub use memory::{MemShelf, MemSink};
+pub use message::Msg;
 pub use outside::{Shelf, Sink};
 pub use sure::{SureShelf, SureSink};
 pub use word::Word;
