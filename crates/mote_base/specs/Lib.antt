@@ -5,5 +5,6 @@ pub mod Messages
 pub mod Shelves
 pub mod Sinks
 pub mod Table
+pub mod Timers
 pub mod Words
 pub mod Written

@@ -13,6 +13,7 @@ mod outside;
 mod sure;
 #[cfg(test)]
 mod tests;
+mod timer;
 mod word;
 mod words;
 
@@ -22,6 +23,7 @@ pub use memory::{MemShelf, MemSink};
 pub use message::Msg;
 pub use outside::{Shelf, Sink};
 pub use sure::{SureShelf, SureSink};
+pub use timer::Timer;
 pub use word::Word;
 pub use words::Words;
 
