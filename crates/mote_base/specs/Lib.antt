@@ -1,8 +1,10 @@
 pub mod Causes
 pub mod Counting
 pub mod Files
+pub mod Messages
 pub mod Shelves
 pub mod Sinks
 pub mod Table
+pub mod Timers
 pub mod Words
 pub mod Written

@@ -8,18 +8,22 @@
 mod fault;
 mod files;
 mod memory;
+mod message;
 mod outside;
 mod sure;
 #[cfg(test)]
 mod tests;
+mod timer;
 mod word;
 mod words;
 
 use arrayvec::ArrayVec;
 pub use fault::{Failed, NoMemory, Status};
 pub use memory::{MemShelf, MemSink};
+pub use message::Msg;
 pub use outside::{Shelf, Sink};
 pub use sure::{SureShelf, SureSink};
+pub use timer::Timer;
 pub use word::Word;
 pub use words::Words;
 
