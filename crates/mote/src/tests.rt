@@ -10,7 +10,9 @@ use std::test::Fail;
 fn real_files_are_read_and_the_output_is_written(rt: HostRuntime) -> Result<(), Fail> {
     let alloc = rt.alloc();
     fs::write(&rt, "edge.txt", "12345")?;
+    fs::write(&rt, "empty.txt", "")?;
     let name = Word::from_text(alloc, "edge.txt")?;
+    let empty = Word::from_text(alloc, "empty.txt")?;
     let missing = Word::from_text(alloc, "edge/missing.txt")?;
     let mut shelf = FileShelf::new(&rt);
     let mut buffer = [b'-'; 4];
@@ -20,6 +22,8 @@ fn real_files_are_read_and_the_output_is_written(rt: HostRuntime) -> Result<(), 
     assert_eq!(rt; shelf.read(&mut buffer)?, 4);
     assert_eq!(rt; shelf.read(&mut buffer)?, 1);
     assert_eq!(rt; buffer, *b"5234");
+    assert_eq!(rt; shelf.read(&mut buffer)?, 0);
+    shelf.start(&empty)?;
     assert_eq!(rt; shelf.read(&mut buffer)?, 0);
 
     let mut out = StdSink::new(rt.stdout());
