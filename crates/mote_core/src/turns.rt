@@ -13,21 +13,18 @@ use domain_model::{FaultNote, Lines, Message, ModuleRow, Running, TraceLine, Uni
 
 /// Why a load is refused, by the number that its line gives.
 const DUPLICATE: u8 = 4;
+
 const NO_DOMAIN: u8 = 5;
+
 const NO_ROOM: u8 = 6;
 
 /// The type of the first message of a module, and the kernel's number as its sender.
 const INIT: u8 = 0;
+
 const KERNEL_SENDER: u8 = 0;
 
 /// Does what an event of the script asks for.
-pub fn come(
-    images: &[Ready],
-    what: What,
-    k: &mut Kernel,
-    r: &mut PlainRunner,
-    lines: &mut Lines,
-)
+pub fn come(images: &[Ready], what: What, k: &mut Kernel, r: &mut PlainRunner, lines: &mut Lines)
     requires empty { lines.old ≡ [] }
     requires machine { GoodMachine k.old r.old }
     requires images { AllByRecursion IsGoodImage images.now }
@@ -123,13 +120,7 @@ fn start(row: &ModuleRow, k: &mut Kernel, r: &mut PlainRunner, lines: &mut Lines
 }
 
 /// Stops the handler, and takes its module out.
-pub fn stop(
-    note: FaultNote,
-    run: &Running,
-    k: &mut Kernel,
-    r: &mut PlainRunner,
-    lines: &mut Lines,
-)
+pub fn stop(note: FaultNote, run: &Running, k: &mut Kernel, r: &mut PlainRunner, lines: &mut Lines)
     requires domain { run.now.domain < 7 }
     requires room { length lines.old + 2 ≤ 512 }
     ensures kernel { k.new ≡ (faulted note run.now k.old r.old lines.old).kernel }

@@ -11,6 +11,7 @@ use std::alloc::Global;
 
 /// The program address of the kernel call `say`, and the call's number.
 const SAY_ENTRY: u32 = 0xF108;
+
 const SAY: u8 = 8;
 
 /// The units of the words, where these can be loaded.

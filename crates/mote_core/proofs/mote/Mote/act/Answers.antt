@@ -9,9 +9,9 @@ use Rattle.mote_core.proofs.mote.Mote.act.Goals as goal
 pub overflow_add-now : goal.overflow_add-now
 overflow_add-now c =
     let before : c.clock-now.result ≡ c.self.inside.kernel.clock =
-        c.clock-now.ensures ∙ ap (λ (k : KernelState). k.clock) c.settle.ensures.kernel
-        ∙ settled_clock c.run_unit-ending.result c.args.run.now c.run_unit-ending.new.k c.run_unit-ending.new.self c.run_unit-ending.new.lines
-        ∙ ap (λ (k : KernelState). k.clock) (c.run_unit-ending.ensures.kernel ∙ act_processor_alone c.self.inside.kernel c.self.inside.runner) in
+    c.clock-now.ensures ∙ ap (λ (k : KernelState). k.clock) c.settle.ensures.kernel
+    ∙ settled_clock c.run_unit-ending.result c.args.run.now c.run_unit-ending.new.k c.run_unit-ending.new.self c.run_unit-ending.new.lines
+    ∙ ap (λ (k : KernelState). k.clock) (c.run_unit-ending.ensures.kernel ∙ act_processor_alone c.self.inside.kernel c.self.inside.runner) in
     omega (arith, before, c.self.invariant.clock, c.self.invariant.total, c.self.invariant.units)
 
 pub invariant_of-self : goal.invariant_of-self
