@@ -1,6 +1,6 @@
 //! Where a request is placed.
 
-ghost use Rattle.std.specs.Prelude.{◌≡◌, ◌≤◌};
+ghost use Rattle.std.specs.Prelude.{◌≡◌, ◌≤◌, IfSome};
 ghost use Rattle.mote_layout.specs.Blocks.{AreBlocks};
 ghost use Rattle.mote_layout.specs.Fit.{fit};
 ghost use Rattle.sos_heap.specs.Requests.{place_for, served};
@@ -14,7 +14,7 @@ pub fn serve(map: &mut MemoryMap, size: u16, owner: u8) -> Option<u16>
     requires { owner ≤ KERNEL }
     ensures place { result ≡ place_for map.old size }
     ensures served { map.new ≡ served owner size map.old }
-    ensures blocks { AreBlocks map.new }
+    ensures blocks { IfSome result (λ _. AreBlocks map.old) }
 {
     if size == 0 {
         return None;
@@ -28,8 +28,7 @@ pub fn serve(map: &mut MemoryMap, size: u16, owner: u8) -> Option<u16>
 /// The first block of the lowest run of `count` free blocks.
 fn lowest_fit(map: &MemoryMap, count: u16) -> Option<u16>
     requires { 1 ≤ count }
-    ensures least { result ≡ fit map.now count }
-    ensures blocks { AreBlocks map.now }
+    ensures { result ≡ fit map.now count }
 {
     let mut run = 0;
     for block in 0..BLOCKS {

@@ -68,12 +68,10 @@ pub fn hand_over(map: &mut MemoryMap, segment: Segment, owner: u8)
 /// Frees the blocks of a domain.
 pub fn clear_owner(map: &mut MemoryMap, d: u8)
     ensures cleared { map.new ≡ without_owner d map.old }
-    ensures blocks { AreBlocks map.old × AreBlocks map.new }
 {
     for block in 0..BLOCKS {
-        let segment = beginning_at(map, address_of(block));
-        if segment.is_some_and(|segment| segment.owner == d) {
-            map.clear_segment(block);
+        if let Ok(segment) = held(map, d, address_of(block)) {
+            map.clear_segment(segment.first);
         }
     }
 }
