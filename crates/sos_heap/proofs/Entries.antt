@@ -109,14 +109,9 @@ loses p o old new was is change parcel after =
     ] in
     record { entries = entries; parcels = λ q apart h. parcel_apart p.block o old new q change apart h; alone = here }
 
--- nothing changed
-stays_same : (ss : List Segment) → KernelStays ss ss
-stays_same ss = record { entries = λ b. refl; parcels = λ q h. h }
-
--- a request of a domain
-pub served_stays : (ss : List Segment) (owner size : ℕ) (o : Option ℕ) → place_for ss size ≡ o → owner < kernel → IfSome o (λ _. AreBlocks ss) → KernelStays ss (served owner size ss)
-served_stays ss owner size None e domain blocks = rw e (stays_same ss)
-served_stays ss owner size (Some block) e domain blocks =
+-- a domain gets the place of its request
+pub served_stays : (ss : List Segment) (owner size block : ℕ) → place_for ss size ≡ Some block → owner < kernel → AreBlocks ss → KernelStays ss (served owner size ss)
+served_stays ss owner size block e domain blocks =
     let place = placed ss size block e in
     let s = segment_for owner size block in
     let none = starting_at-free 0 ss block (blocks_for size) place.some place.fits.1 blocks in
@@ -124,16 +119,14 @@ served_stays ss owner size (Some block) e domain blocks =
     (stays block (Some s) ss (inserted s ss) blocks (AreBlocks-inserted s ss place.some (omega (arith, domain)) place.fits blocks) (inserted-changed s ss none)
     (ap (λ x. kernel_of x) none) (kernel_of-domain s domain))
 
--- a request of the kernel
-pub served_gains : (ss : List Segment) (size : ℕ) (o : Option ℕ) → place_for ss size ≡ o → IfSome o (λ _. AreBlocks ss) → MatchOption (payload_for ss size) (KernelStays ss (served kernel size ss)) (λ p. KernelGains p ss (served kernel size ss))
-served_gains ss size None e blocks = rw e (stays_same ss)
-served_gains ss size (Some block) e blocks =
+-- the kernel gets the place of its request
+pub served_gains : (ss : List Segment) (size block : ℕ) → place_for ss size ≡ Some block → AreBlocks ss → KernelGains (record { block = block; len = size }) ss (served kernel size ss)
+served_gains ss size block e blocks =
     let place = placed ss size block e in
     let s = segment_for kernel size block in
-    let p : Payload = record { block = block; len = size } in
     let none = starting_at-free 0 ss block (blocks_for size) place.some place.fits.1 blocks in
     rw e
-    (gains p s ss (inserted s ss) blocks (AreBlocks-inserted s ss place.some (omega arith) place.fits blocks) (inserted-changed s ss none)
+    (gains (record { block = block; len = size }) s ss (inserted s ss) blocks (AreBlocks-inserted s ss place.some (omega arith) place.fits blocks) (inserted-changed s ss none)
     (ap (λ x. kernel_of x) none) refl (omega arith))
 
 -- a domain's block becomes free

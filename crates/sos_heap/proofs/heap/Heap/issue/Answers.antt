@@ -1,0 +1,17 @@
+-- The kernel gets the place of its request, which is the parcel's.
+use Rattle.std.proofs.Common.{◌≡◌, Some, sym, ◌∙◌, arith}
+use Rattle.sos_heap.specs.Requests.{place_for}
+use Rattle.sos_heap.proofs.Places.{placed}
+use Rattle.sos_heap.proofs.Entries.{served_gains}
+use Rattle.sos_heap.proofs.heap.Heap.issue.Goals as goal
+
+pub new-requires : goal.new-requires
+new-requires c =
+    let place = placed c.self.inside.map c.args.size c.in_ok-block.block (sym c.serve.ensures.place ∙ c.in_ok-block.was) in
+    omega (arith, place.some, place.fits.0)
+
+pub returns-clause-kernel : goal.returns-clause-kernel
+returns-clause-kernel c =
+    let found : place_for c.self.inside.map c.args.size ≡ Some c.in_ok-block.block = sym c.serve.ensures.place ∙ c.in_ok-block.was in
+    rw (c.new.ensures, c.serve.ensures.served, ← c.self.view_is)
+    (served_gains c.self.inside.map c.args.size c.in_ok-block.block found c.in_ok-block.ensures.blocks)
