@@ -1,13 +1,13 @@
 -- Where a request is placed: the free blocks that a scan has seen, and the place that it finds.
 use Rattle.std.proofs.Common.{◌≡◌, ℕ, ◌+◌, ◌-◌, ◌<◌, ◌≤◌, ◌⊎◌, eqb, List, [], ◌∷◌, Option, Some, None, inl, inr, sym, arith, ◌∙◌, subst}
-use Rattle.std.proofs.lemmas.Bool.{cond-true, cond-false, cases_Bool, cases_lt, cases_eq, eqb-false}
+use Rattle.std.proofs.lemmas.Bool.{cond-true, cond-false, cases_Bool, cases_lt, cases_eq, eqb-true, eqb-false}
 use Rattle.std.proofs.lemmas.Option.{none-some}
 use Rattle.mote_layout.specs.Memory.{block_count}
 use Rattle.mote_layout.specs.Blocks.{AreBlocksFrom, AreBlocks, AreFree, Fits}
 use Rattle.mote_layout.specs.Fit.{IsLeastFit, blocks_for, fit}
 use Rattle.mote_layout.specs.declared.segment.Segment.{Segment}
 use Rattle.mote_layout.proofs.LeastFit.{fit-some, fit-none}
-use Rattle.sos_heap.specs.Requests.{place_for}
+use Rattle.sos_heap.specs.Requests.{place_for, HasNoPlace}
 
 -- What is known of the place of a request.
 pub record IsPlace (ss : List Segment) (size block : ℕ) : Type 0 where
@@ -24,6 +24,22 @@ placed ss size block h =
           let count : 1 ≤ blocks_for size = omega (arith, ne) in
           record { some = count; fits = ((fit-some ss (blocks_for size) block count).0 found).fits }
     ]
+
+-- where a request gets no place, there is none for it,
+pub no_place : (ss : List Segment) (size : ℕ) → place_for ss size ≡ None → HasNoPlace ss size
+no_place ss size h =
+    elim (cases_Bool (eqb size 0)) [
+      | inl nothing ↦ inl (eqb-true size 0 nothing)
+      | inr some ↦
+          let ne = eqb-false size 0 some in
+          inr ((fit-none ss (blocks_for size) (omega (arith, ne))).0 (sym (cond-false (eqb size 0) None (fit ss (blocks_for size)) some) ∙ h))
+    ]
+
+-- and where it gets one, there was one
+pub a_place : (ss : List Segment) (size block : ℕ) → place_for ss size ≡ Some block → ¬ HasNoPlace ss size
+a_place ss size block h none =
+    let place = placed ss size block h in
+    elim none as (λ _. ⊥) [ inl e ↦ omega (arith, e, place.some) | inr nowhere ↦ nowhere block place.fits ]
 
 -- each block of free blocks is free
 AreFree-one : (ss : List Segment) (first count block : ℕ) → first ≤ block → block < first + count → AreFree ss first count → AreFree ss block 1

@@ -1,15 +1,19 @@
 -- Requests for bytes of the heap, and the blocks that the calls name by an address. What is given out as one is
 -- one segment of the list, of as many blocks as hold the bytes asked for.
-use Rattle.std.specs.Prelude.{◌≡◌, ℕ, ◌==◌, ◌*◌, ◌≤◌, List, Option, None, find, option_map, IsSomeAnd, if◌then◌else◌}
+use Rattle.std.specs.Prelude.{◌≡◌, ℕ, ◌==◌, ◌*◌, ◌≤◌, ◌⊎◌, List, Option, None, find, option_map, IsSomeAnd, if◌then◌else◌}
 use Rattle.std.specs.Option.{option_map_or}
 use Rattle.mote_layout.specs.Memory.{block_bytes}
-use Rattle.mote_layout.specs.Blocks.{block_address, inserted}
+use Rattle.mote_layout.specs.Blocks.{block_address, Fits, inserted}
 use Rattle.mote_layout.specs.Fit.{blocks_for, fit}
 use Rattle.mote_layout.specs.declared.segment.Segment.{Segment}
 
 -- the first block of a request for so many bytes: the least fit for its blocks; none for a request of 0 bytes
 abbrev pub place_for : List Segment → ℕ → Option ℕ
 place_for ss size = if size == 0 then None else fit ss (blocks_for size)
+
+-- There is no place for so many bytes: they are none, or no run of free blocks is long enough.
+abbrev pub HasNoPlace : List Segment → ℕ → Type 0
+HasNoPlace ss size = (size ≡ 0) ⊎ ((block : ℕ) → ¬ Fits ss block (blocks_for size))
 
 -- the address of a request for so many bytes
 abbrev pub address_for : List Segment → ℕ → Option ℕ

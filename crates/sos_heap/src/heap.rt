@@ -3,7 +3,7 @@
 ghost use Rattle.std.specs.Prelude.{◌≡◌, ◌<◌, ◌↔◌, ℕ, ◌≤◌, [], None, IfOk, OnOk, OnErr, IsErr, IsSomeAnd, MatchOption};
 ghost use Rattle.mote_layout.specs.Memory.{kernel};
 ghost use Rattle.mote_layout.specs.Blocks.{AreBlocks, block_address, block_of, without, without_owner, handed_over};
-ghost use Rattle.sos_heap.specs.Requests.{address_for, served, Holds, HoldsBytes};
+ghost use Rattle.sos_heap.specs.Requests.{address_for, HasNoPlace, served, Holds, HoldsBytes};
 ghost use Rattle.sos_heap.specs.Parcels.{IsParcelOf, payload_for};
 ghost use Rattle.sos_heap.specs.Kernel.{kernel_entries, KernelStays, KernelGains, KernelLoses};
 
@@ -45,6 +45,7 @@ impl Heap {
     pub fn give(&mut self, d: u8, size: u16) -> Option<u16>
         requires domain { d < DOMAINS }
         ensures address { result ≡ address_for self.old size }
+        ensures none { (result ≡ None) ↔ HasNoPlace self.old size }
         ensures given { self.new ≡ served d size self.old }
         ensures kernel { KernelStays self.old self.new }
     {
@@ -55,6 +56,7 @@ impl Heap {
     /// Gives the kernel a block for `size` bytes, as a parcel of that length: None as in `give`.
     pub fn issue(&mut self, size: u16) -> Option<Parcel>
         ensures parcel { result ≡ payload_for self.old size }
+        ensures none { (result ≡ None) ↔ HasNoPlace self.old size }
         ensures issued { self.new ≡ served kernel size self.old }
         ensures kernel { MatchOption result (KernelStays self.old self.new) (λ p. KernelGains p self.old self.new) }
     {
