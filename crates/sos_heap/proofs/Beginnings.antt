@@ -1,12 +1,12 @@
 -- The segment that begins at an address, found by the segment in which the address lies.
-use Rattle.std.proofs.Common.{◌≡◌, ℕ, ◌+◌, ◌<◌, ◌≤◌, leb, ltb, eqb, cond, List, [], ◌∷◌, Option, Some, None, inl, inr, refl, sym, arith, ap, ◌∙◌, subst, eq-eqb}
+use Rattle.std.proofs.Common.{◌≡◌, ℕ, ◌+◌, ◌<◌, eqb, cond, List, [], ◌∷◌, Option, Some, None, inl, inr, refl, sym, arith, ap, ◌∙◌, subst, eq-eqb}
 use Rattle.std.proofs.lemmas.Bool.{cond-true, cond-false, cases_Bool, eqb-true, eqb-false, ne_eqb}
 use Rattle.std.proofs.lemmas.Option.{none-some, same_Some}
 use Rattle.mote_layout.specs.Blocks.{FitsBehind, AreBlocksFrom, AreBlocks, block_address, block_of, covers, segment_at, starting_at}
 use Rattle.mote_layout.specs.declared.segment.Segment.{Segment}
 use Rattle.mote_layout.proofs.Owners.{covers-true, covers-false}
 use Rattle.mote_layout.proofs.OneSegment.{starting_at-fits, starting_at-segment_at}
-use Rattle.sos_heap.specs.Requests.{beginning_at, Holds}
+use Rattle.sos_heap.specs.Requests.{beginning_at}
 
 -- no segment behind a block begins at an address below it
 beginning_at-below : (low : ℕ) (ss : List Segment) (a : ℕ) → AreBlocksFrom low ss → a < block_address low → beginning_at ss a ≡ None

@@ -1,8 +1,8 @@
 -- What begins with a block once the list has changed.
-use Rattle.std.proofs.Common.{◌≡◌, ◌≢◌, ℕ, ◌+◌, ◌<◌, ◌≤◌, ltb, eqb, not, List, [], ◌∷◌, Option, Some, None, inl, inr, refl, sym, arith, ap, ◌∙◌, subst, eq-eqb}
-use Rattle.std.proofs.lemmas.Bool.{cond-true, cond-false, cond_both, cases_Bool, eqb-true, eqb-false, ne_eqb}
+use Rattle.std.proofs.Common.{◌≡◌, ◌≢◌, ℕ, ◌+◌, ◌≤◌, ltb, eqb, List, [], ◌∷◌, Option, Some, None, inl, inr, refl, sym, arith, ap, ◌∙◌, eq-eqb}
+use Rattle.std.proofs.lemmas.Bool.{cond-true, cond-false, cond_both, cases_Bool, eqb-true, ne_eqb}
 use Rattle.std.proofs.lemmas.Option.{none-some, same_Some}
-use Rattle.mote_layout.specs.Blocks.{AreBlocksFrom, AreBlocks, AreFree, Fits, starting_at, inserted, without, given_to, handed_over}
+use Rattle.mote_layout.specs.Blocks.{AreBlocksFrom, AreFree, starting_at, inserted, without, given_to, handed_over}
 use Rattle.mote_layout.specs.declared.segment.Segment.{Segment}
 
 -- Only what begins with one block changed.

@@ -1,14 +1,13 @@
 -- The kernel's entries by what begins with a block, and how they change with it.
-use Rattle.std.proofs.Common.{◌≡◌, ◌≢◌, ℕ, suc, ◌+◌, ◌*◌, ◌<◌, ◌≤◌, eqb, cond, length, List, [], ◌∷◌, Option, Some, None, IsSomeAnd, IfSome, MatchOption, inl, inr, refl, sym, arith, ap, ◌∙◌, subst, eq-eqb}
+use Rattle.std.proofs.Common.{◌≡◌, ◌≢◌, ℕ, suc, ◌+◌, ◌*◌, ◌<◌, ◌≤◌, eqb, cond, List, [], ◌∷◌, Option, Some, None, IsSomeAnd, inl, inr, refl, sym, arith, ap, ◌∙◌, subst, eq-eqb}
 use Rattle.std.proofs.lemmas.Bool.{cond-true, cond-false, cases_Bool, cases_eq, eqb-true, ne_eqb}
-use Rattle.std.proofs.lemmas.Option.{none-some}
 use Rattle.mote_layout.specs.Memory.{block_bytes, kernel}
 use Rattle.mote_layout.specs.Blocks.{AreBlocksFrom, AreBlocks, starting_at, inserted, without, given_to, handed_over}
 use Rattle.mote_layout.specs.Fit.{blocks_for}
 use Rattle.mote_layout.specs.declared.segment.Segment.{Segment}
 use Rattle.mote_layout.proofs.BlockLists.{AreBlocks-inserted, AreBlocks-without, AreBlocks-handed_over}
 use Rattle.sos_heap.specs.Requests.{place_for, segment_for, served, beginning_at}
-use Rattle.sos_heap.specs.Parcels.{Payload, IsParcelOf, payload_for}
+use Rattle.sos_heap.specs.Parcels.{Payload, IsParcelOf}
 use Rattle.sos_heap.specs.Kernel.{kernel_entries, naming, KernelStays, KernelGains, KernelLoses}
 use Rattle.sos_heap.proofs.Beginnings.{begins_at}
 use Rattle.sos_heap.proofs.Changes.{IsChangedAt, without-changed, inserted-changed, handed_over-changed, starting_at-free}

@@ -1,10 +1,10 @@
 -- Where a request is placed: the free blocks that a scan has seen, and the place that it finds.
-use Rattle.std.proofs.Common.{◌≡◌, ℕ, ◌+◌, ◌-◌, ◌<◌, ◌≤◌, ◌⊎◌, eqb, List, [], ◌∷◌, Option, Some, None, inl, inr, sym, arith, ◌∙◌, subst}
+use Rattle.std.proofs.Common.{◌≡◌, ℕ, ◌+◌, ◌-◌, ◌<◌, ◌≤◌, ◌⊎◌, eqb, List, [], ◌∷◌, Some, None, inl, inr, sym, arith, ◌∙◌, subst}
 use Rattle.std.proofs.lemmas.Bool.{cond-true, cond-false, cases_Bool, cases_lt, cases_eq, eqb-true, eqb-false}
 use Rattle.std.proofs.lemmas.Option.{none-some}
 use Rattle.mote_layout.specs.Memory.{block_count}
 use Rattle.mote_layout.specs.Blocks.{AreBlocksFrom, AreBlocks, AreFree, Fits}
-use Rattle.mote_layout.specs.Fit.{IsLeastFit, blocks_for, fit}
+use Rattle.mote_layout.specs.Fit.{blocks_for, fit}
 use Rattle.mote_layout.specs.declared.segment.Segment.{Segment}
 use Rattle.mote_layout.proofs.LeastFit.{fit-some, fit-none}
 use Rattle.sos_heap.specs.Requests.{place_for, HasNoPlace}

@@ -1,6 +1,6 @@
 -- To take away all of a domain: block by block, and what the kernel has after it.
-use Rattle.std.proofs.Common.{◌≡◌, ◌≢◌, ℕ, suc, ◌+◌, ◌*◌, ◌<◌, ◌≤◌, ◌&&◌, ◌⊎◌, eqb, length, List, [], ◌∷◌, Option, Some, None, IsSomeAnd, inl, inr, refl, sym, arith, ap, ◌∙◌, subst, eq-eqb}
-use Rattle.std.proofs.lemmas.Bool.{cond-true, cond-false, cases_Bool, cases_eq, eqb-true, eqb-false, ne_eqb, and_right}
+use Rattle.std.proofs.Common.{◌≡◌, ◌≢◌, ℕ, suc, ◌+◌, ◌*◌, ◌<◌, ◌≤◌, ◌&&◌, ◌⊎◌, eqb, List, [], ◌∷◌, Option, Some, None, IsSomeAnd, inl, inr, refl, sym, arith, ap, ◌∙◌, subst, eq-eqb}
+use Rattle.std.proofs.lemmas.Bool.{cond-true, cond-false, cases_Bool, cases_eq, eqb-true, ne_eqb, and_right}
 use Rattle.std.proofs.lemmas.Option.{none-some, same_Some}
 use Rattle.mote_layout.specs.Memory.{block_count, block_bytes, kernel}
 use Rattle.mote_layout.specs.Blocks.{AreBlocksFrom, AreBlocks, block_address, starting_at, without, without_owner}
@@ -10,7 +10,7 @@ use Rattle.sos_heap.specs.Requests.{beginning_at, Holds}
 use Rattle.sos_heap.specs.Parcels.{Payload, IsParcelOf}
 use Rattle.sos_heap.specs.Kernel.{kernel_entries, KernelStays}
 use Rattle.sos_heap.proofs.Beginnings.{beginning_at-starting_at, beginning_at-first, begins_at}
-use Rattle.sos_heap.proofs.Changes.{IsChangedAt, without-changed}
+use Rattle.sos_heap.proofs.Changes.{without-changed}
 
 -- the kernel's entries are not the domain's
 entries_purged : (d : ℕ) (ss : List Segment) (b : ℕ) → d < kernel → kernel_entries b (without_owner d ss) ≡ kernel_entries b ss
@@ -113,12 +113,12 @@ without_owner-none low d (t ∷ ts) blocks none =
     let kept = ne_eqb t.owner d (λ e. none t.first (omega (arith, blocks.0.1, blocks.0.2)) (subst (λ (o : Option Segment). IsSomeAnd o (λ s. s.owner ≡ d)) (sym here) e)) in
     rw kept
     (ap (λ xs. t ∷ xs) (without_owner-none (t.first + t.count) d ts blocks.1 (λ b below held. none b below (
-      held_behind (t.first + t.count) d t ts b (starting_at ts b) refl blocks.1 (omega (arith, blocks.0.1)) held
+    held_behind (t.first + t.count) d t ts b (starting_at ts b) refl blocks.1 (omega (arith, blocks.0.1)) held
     ))))
 
 pub purge_end : (d : ℕ) (old now : List Segment) → HasPurged d old now block_count → now ≡ without_owner d old
 purge_end d old now done =
     sym (without_owner-none 0 d now (done.blocks (omega arith)) (λ b below held. done.none b below (
-      subst (λ (o : Option Segment). IsSomeAnd o (λ s. s.owner ≡ d)) (sym (beginning_at-starting_at now b)) held
+    subst (λ (o : Option Segment). IsSomeAnd o (λ s. s.owner ≡ d)) (sym (beginning_at-starting_at now b)) held
     )))
     ∙ done.same

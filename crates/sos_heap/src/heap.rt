@@ -1,11 +1,11 @@
 //! The heap and its calls.
 
-ghost use Rattle.std.specs.Prelude.{◌≡◌, ◌<◌, ◌↔◌, ℕ, ◌≤◌, [], None, IfOk, OnOk, OnErr, IsErr, IsSomeAnd, MatchOption};
+ghost use Rattle.std.specs.Prelude.{◌≡◌, ◌<◌, ◌↔◌, [], None, IfOk, OnOk, OnErr, IsErr, MatchOption};
 ghost use Rattle.mote_layout.specs.Memory.{kernel};
-ghost use Rattle.mote_layout.specs.Blocks.{AreBlocks, block_address, block_of, without, without_owner, handed_over};
+ghost use Rattle.mote_layout.specs.Blocks.{block_address, block_of, without, without_owner, handed_over};
 ghost use Rattle.sos_heap.specs.Requests.{address_for, HasNoPlace, served, Holds, HoldsBytes};
 ghost use Rattle.sos_heap.specs.Parcels.{IsParcelOf, payload_for};
-ghost use Rattle.sos_heap.specs.Kernel.{kernel_entries, KernelStays, KernelGains, KernelLoses};
+ghost use Rattle.sos_heap.specs.Kernel.{KernelStays, KernelGains, KernelLoses};
 
 use crate::Parcel;
 use crate::fit::serve;

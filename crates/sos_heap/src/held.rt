@@ -1,6 +1,6 @@
 //! What the heap asks of its map, and the changes of single entries.
 
-ghost use Rattle.std.specs.Prelude.{◌≡◌, ◌≢◌, ◌<◌, ◌≤◌, Some, IsTrue, ◌↔◌, MatchResult};
+ghost use Rattle.std.specs.Prelude.{◌≡◌, ◌<◌, ◌≤◌, Some, IsTrue, ◌↔◌, MatchResult};
 ghost use Rattle.mote_layout.specs.Blocks.{AreBlocks, AreFree, block_address, starting_at, handed_over, without_owner};
 ghost use Rattle.sos_heap.specs.Requests.{beginning_at, Holds};
 

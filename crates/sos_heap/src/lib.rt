@@ -11,8 +11,8 @@
 #![tactic(auto)]
 
 mod fit;
-mod held;
 mod heap;
+mod held;
 mod parcel;
 #[cfg(test)]
 mod tests;

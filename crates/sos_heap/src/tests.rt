@@ -11,7 +11,12 @@ fn places_by_size(rt: HostRuntime) -> Result<(), Fail> {
         assert_eq!(rt; heap.give(0, size), a, "{size} bytes");
     }
     heap.purge(0);
-    for (size, a) in [(3064, Some(0x0200)), (9, None), (0, None), (8, Some(0x0DF8))] {
+    for (size, a) in [
+        (3064, Some(0x0200)),
+        (9, None),
+        (0, None),
+        (8, Some(0x0DF8)),
+    ] {
         assert_eq!(rt; heap.give(6, size), a, "{size} bytes");
     }
     Ok(())

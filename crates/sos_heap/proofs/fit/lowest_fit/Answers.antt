@@ -1,10 +1,9 @@
 -- Each turn of the scan sees one block more; it answers where the run is long enough.
-use Rattle.std.proofs.Common.{◌≡◌, ◌+◌, ◌<◌, Some, None, sym, ap, ◌∙◌, arith, rules, true}
+use Rattle.std.proofs.Common.{◌≡◌, sym, arith}
 use Rattle.std.proofs.lemmas.Bool.{both_ways}
 use Rattle.mote_layout.specs.Memory.{block_count}
 use Rattle.mote_layout.specs.Blocks.{AreFree}
-use Rattle.mote_layout.specs.Fit.{fit}
-use Rattle.sos_heap.proofs.Places.{HasScanned, scan_taken, scan_free, scan_found, scan_end}
+use Rattle.sos_heap.proofs.Places.{scan_taken, scan_free, scan_found, scan_end}
 use Rattle.sos_heap.proofs.fit.lowest_fit.Goals as goal
 use Rattle.sos_heap.proofs.fit.lowest_fit.Goals.{then-not-is_free, else-not-is_free+then-run-count}
 

@@ -1,10 +1,10 @@
 -- Each turn takes out what the domain has that begins with one block more.
-use Rattle.std.proofs.Common.{◌≡◌, ◌≢◌, ◌<◌, Some, refl, sym, ap, ◌∙◌, subst, arith, rules}
+use Rattle.std.proofs.Common.{◌≡◌, Some, refl, arith}
 use Rattle.mote_layout.specs.Memory.{block_count}
-use Rattle.mote_layout.specs.Blocks.{AreBlocks, block_address, starting_at, without}
+use Rattle.mote_layout.specs.Blocks.{AreBlocks, block_address, without}
 use Rattle.sos_heap.specs.Requests.{beginning_at, Holds}
 use Rattle.sos_heap.proofs.Beginnings.{begins_at}
-use Rattle.sos_heap.proofs.Purged.{HasPurged, purge_passed, purge_taken, purge_end}
+use Rattle.sos_heap.proofs.Purged.{purge_passed, purge_taken, purge_end}
 use Rattle.sos_heap.proofs.held.clear_owner.Goals as goal
 use Rattle.sos_heap.proofs.held.clear_owner.Goals.{in-Ok, in_default}
 

@@ -1,5 +1,5 @@
 -- Without the segment its blocks are free, and put back for the other owner it is handed over.
-use Rattle.std.proofs.Common.{◌≡◌, ap, ◌∙◌}
+use Rattle.std.proofs.Common.{ap, ◌∙◌}
 use Rattle.mote_layout.specs.Blocks.{given_to, inserted}
 use Rattle.mote_layout.proofs.OneSegment.{starting_at-fits, Fits-without, handed_over-inserted}
 use Rattle.sos_heap.proofs.held.hand_over.Goals as goal

@@ -1,5 +1,5 @@
 -- What the domain has at the address begins with the address's block, and is a domain's before and after.
-use Rattle.std.proofs.Common.{◌≡◌, ◌<◌, Some, sym, ap, ◌∙◌, arith}
+use Rattle.std.proofs.Common.{◌<◌, sym, ap, ◌∙◌, arith}
 use Rattle.mote_layout.specs.Memory.{kernel}
 use Rattle.mote_layout.specs.Blocks.{block_of, handed_over}
 use Rattle.sos_heap.proofs.Beginnings.{begins_at}

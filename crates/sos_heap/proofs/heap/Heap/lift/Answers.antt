@@ -1,5 +1,5 @@
 -- What the domain has at the address begins there within the heap, and the kernel gains it.
-use Rattle.std.proofs.Common.{◌≡◌, ◌<◌, ◌≤◌, ◌*◌, Some, ap, ◌∙◌, arith}
+use Rattle.std.proofs.Common.{◌<◌, ◌≤◌, ◌*◌, ap, ◌∙◌, arith}
 use Rattle.mote_layout.specs.Memory.{kernel, block_bytes}
 use Rattle.mote_layout.specs.Blocks.{block_address}
 use Rattle.sos_heap.specs.Parcels.{Payload}

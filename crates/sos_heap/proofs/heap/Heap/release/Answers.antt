@@ -1,5 +1,5 @@
 -- What the domain has at the address begins with the address's block, and is not the kernel's.
-use Rattle.std.proofs.Common.{◌≡◌, ◌<◌, Some, refl, sym, ap, ◌∙◌, arith}
+use Rattle.std.proofs.Common.{◌<◌, refl, sym, ap, ◌∙◌, arith}
 use Rattle.mote_layout.specs.Memory.{kernel}
 use Rattle.mote_layout.specs.Blocks.{block_of, without}
 use Rattle.sos_heap.proofs.Beginnings.{begins_at}

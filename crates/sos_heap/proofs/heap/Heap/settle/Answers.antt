@@ -1,9 +1,8 @@
 -- The parcel's entry is the one that begins at its address.
 use Rattle.std.proofs.Common.{◌≡◌, Some, sym, ap, ◌∙◌, arith}
-use Rattle.mote_layout.specs.Blocks.{block_address, starting_at, handed_over}
-use Rattle.sos_heap.specs.Requests.{beginning_at}
+use Rattle.mote_layout.specs.Blocks.{starting_at, handed_over}
 use Rattle.sos_heap.specs.Parcels.{IsParcelOf}
-use Rattle.sos_heap.proofs.Beginnings.{begins_at, beginning_at-starting_at}
+use Rattle.sos_heap.proofs.Beginnings.{begins_at}
 use Rattle.sos_heap.proofs.Entries.{handed_over_loses}
 use Rattle.sos_heap.proofs.heap.Heap.settle.Goals as goal
 
