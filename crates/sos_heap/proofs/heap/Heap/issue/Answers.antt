@@ -1,0 +1,29 @@
+-- The kernel gets the place of its request, which is the parcel's.
+use Rattle.std.proofs.Common.{◌≡◌, Some, None, sym, ◌∙◌, arith}
+use Rattle.std.proofs.lemmas.Option.{none-some}
+use Rattle.sos_heap.specs.Requests.{place_for}
+use Rattle.sos_heap.proofs.Places.{placed, no_place, a_place}
+use Rattle.sos_heap.proofs.Entries.{served_gains}
+use Rattle.sos_heap.proofs.heap.Heap.issue.Goals as goal
+
+pub new-requires : goal.new-requires
+new-requires c =
+    let place = placed c.self.inside.map c.args.size c.in_ok-block.block (sym c.serve.ensures.place ∙ c.in_ok-block.was) in
+    omega (arith, place.some, place.fits.0)
+
+pub returns-clause-kernel : goal.returns-clause-kernel
+returns-clause-kernel c =
+    let found : place_for c.self.inside.map c.args.size ≡ Some c.in_ok-block.block = sym c.serve.ensures.place ∙ c.in_ok-block.was in
+    rw (c.new.ensures, c.serve.ensures.served, ← c.self.view_is)
+    (served_gains c.self.inside.map c.args.size c.in_ok-block.block found c.in_ok-block.ensures.blocks)
+
+pub returns-in_err-block-clause-none : goal.returns-in_err-block-clause-none
+returns-in_err-block-clause-none c =
+    let nowhere : place_for c.self.inside.map c.args.size ≡ None = sym c.serve.ensures.place ∙ c.in_err-block.was in
+    rw (← c.self.view_is) (λ _. no_place c.self.inside.map c.args.size nowhere, λ _. c.from_residual.ensures)
+
+pub returns-clause-none : goal.returns-clause-none
+returns-clause-none c =
+    let found : place_for c.self.inside.map c.args.size ≡ Some c.in_ok-block.block = sym c.serve.ensures.place ∙ c.in_ok-block.was in
+    rw (← c.self.view_is)
+    (λ e. absurd (none-some c.new.result (sym e)), λ nowhere. absurd (a_place c.self.inside.map c.args.size c.in_ok-block.block found nowhere))

@@ -1,0 +1,151 @@
+//! The heap and its calls.
+
+ghost use Rattle.std.specs.Prelude.{◌≡◌, ◌<◌, ◌↔◌, [], None, IfOk, OnOk, OnErr, IsErr, MatchOption};
+ghost use Rattle.mote_layout.specs.Memory.{kernel};
+ghost use Rattle.mote_layout.specs.Blocks.{block_address, block_of, without, without_owner, handed_over};
+ghost use Rattle.sos_heap.specs.Requests.{address_for, HasNoPlace, served, Holds, HoldsBytes};
+ghost use Rattle.sos_heap.specs.Parcels.{IsParcelOf, payload_for};
+ghost use Rattle.sos_heap.specs.Kernel.{KernelStays, KernelGains, KernelLoses};
+
+use crate::Parcel;
+use crate::fit::serve;
+use crate::held::{NotOwner, address_of, beginning_at, clear_owner, hand_over, held};
+use memory_map::MemoryMap;
+use mote_base::NoMemory;
+use mote_layout::{BLOCK_BYTES, DOMAINS, KERNEL};
+use std::alloc::Global;
+use std::marker::Model;
+
+/// The blocks of the heap and who holds them.
+#[derive(Drop)]
+pub struct Heap {
+    map: MemoryMap,
+}
+
+impl Model for Heap {
+    ghost use Rattle.std.specs.Prelude.{List};
+    ghost use Rattle.mote_layout.specs.declared.segment.Segment.{Segment};
+
+    ghost Value = { List Segment };
+
+    ghost view = { λ h. h.map };
+}
+
+impl Heap {
+    /// A heap of which every block is free. No later call takes memory.
+    pub fn new(alloc: Global) -> Result<Heap, NoMemory>
+        ensures { IfOk result (λ heap. heap ≡ []) }
+    {
+        let map = MemoryMap::new(alloc)?;
+        Ok(Heap { map })
+    }
+
+    /// Gives a domain a block for `size` bytes, and answers its address: None exactly where `size` is 0 or
+    /// no run of free blocks is long enough.
+    pub fn give(&mut self, d: u8, size: u16) -> Option<u16>
+        requires domain { d < DOMAINS }
+        ensures address { result ≡ address_for self.old size }
+        ensures none { (result ≡ None) ↔ HasNoPlace self.old size }
+        ensures given { self.new ≡ served d size self.old }
+        ensures kernel { KernelStays self.old self.new }
+    {
+        let block = serve(&mut self.map, size, d)?;
+        Some(address_of(block))
+    }
+
+    /// Gives the kernel a block for `size` bytes, as a parcel of that length: None as in `give`.
+    pub fn issue(&mut self, size: u16) -> Option<Parcel>
+        ensures parcel { result ≡ payload_for self.old size }
+        ensures none { (result ≡ None) ↔ HasNoPlace self.old size }
+        ensures issued { self.new ≡ served kernel size self.old }
+        ensures kernel { MatchOption result (KernelStays self.old self.new) (λ p. KernelGains p self.old self.new) }
+    {
+        let block = serve(&mut self.map, size, KERNEL)?;
+        Some(Parcel::new(block, size))
+    }
+
+    /// Frees the block of a domain that begins at an address.
+    pub fn release(&mut self, d: u8, a: u16) -> Result<(), NotOwner>
+        requires domain { d < DOMAINS }
+        ensures refused { IsErr result ↔ (¬ Holds self.old d a) }
+        ensures released { OnOk result (self.new ≡ without (block_of a) self.old) }
+        ensures unchanged { OnErr result (self.new ≡ self.old) }
+        ensures kernel { KernelStays self.old self.new }
+    {
+        let segment = held(&self.map, d, a)?;
+        self.map.clear_segment(segment.first);
+        Ok(())
+    }
+
+    /// Hands the block of a domain that begins at an address to another domain.
+    pub fn change(&mut self, d: u8, a: u16, to: u8) -> Result<(), NotOwner>
+        requires domain { d < DOMAINS }
+        requires to { to < DOMAINS }
+        ensures refused { IsErr result ↔ (¬ Holds self.old d a) }
+        ensures changed { OnOk result (self.new ≡ handed_over (block_of a) to self.old) }
+        ensures unchanged { OnErr result (self.new ≡ self.old) }
+        ensures kernel { KernelStays self.old self.new }
+    {
+        let segment = held(&self.map, d, a)?;
+        hand_over(&mut self.map, segment, to);
+        Ok(())
+    }
+
+    /// Makes the block of a domain that begins at an address the kernel's, as a parcel of its first `len` bytes.
+    pub fn lift(&mut self, d: u8, a: u16, len: u16) -> Result<Parcel, NotOwner>
+        requires domain { d < DOMAINS }
+        ensures refused { IsErr result ↔ (¬ HoldsBytes self.old d a len) }
+        ensures parcel { IfOk result (λ p. (block_address p.block ≡ a) × (p.len ≡ len)) }
+        ensures lifted { IfOk result (λ p. self.new ≡ handed_over p.block kernel self.old) }
+        ensures unchanged { OnErr result (self.new ≡ self.old) }
+        ensures kernel { IfOk result (λ p. KernelGains p self.old self.new) }
+    {
+        let segment = held(&self.map, d, a)?;
+        if BLOCK_BYTES * segment.count < len {
+            return Err(NotOwner);
+        }
+        hand_over(&mut self.map, segment, KERNEL);
+        Ok(Parcel::new(segment.first, len))
+    }
+
+    /// Gives the block of a parcel to a domain, and answers its address.
+    pub fn settle(&mut self, p: Parcel, d: u8) -> u16
+        requires parcel { IsParcelOf self.old p }
+        requires domain { d < DOMAINS }
+        ensures address { result ≡ block_address p.block }
+        ensures settled { self.new ≡ handed_over p.block d self.old }
+        ensures kernel { KernelLoses p self.old self.new }
+    {
+        let address = p.addr();
+        let Some(segment) = beginning_at(&self.map, address) else {
+            unreachable!()
+        };
+        hand_over(&mut self.map, segment, d);
+        address
+    }
+
+    /// Frees the block of a parcel.
+    pub fn scrap(&mut self, p: Parcel)
+        requires parcel { IsParcelOf self.old p }
+        ensures scrapped { self.new ≡ without p.block self.old }
+        ensures kernel { KernelLoses p self.old self.new }
+    {
+        self.map.clear_segment(p.block());
+    }
+
+    /// Frees all blocks of a domain.
+    pub fn purge(&mut self, d: u8)
+        requires domain { d < DOMAINS }
+        ensures purged { self.new ≡ without_owner d self.old }
+        ensures kernel { KernelStays self.old self.new }
+    {
+        clear_owner(&mut self.map, d);
+    }
+
+    /// The map of these blocks.
+    pub fn map(&self) -> &MemoryMap
+        ensures map { result.now ≡ self.now }
+    {
+        &self.map
+    }
+}

@@ -1,0 +1,22 @@
+//! The heap: who gets which blocks, and the parcels that the kernel passes on.
+//!
+//! After the dynamic memory of SOS (Han et al., MobiSys 2005), in which a block has an owner and can be handed over,
+//! with the owners of Harbor's memory map. A heap is seen as *Blocks* of `mote_layout`, the sorted list of its
+//! segments: `give` and `issue` place a request exactly by *Least fit*, and each other call changes exactly the
+//! entry that it names. A `Parcel` stands for one block of the kernel's; it is made by `issue` and `lift` alone, can't
+//! be copied, and ends in `settle` or `scrap`. Beside its exact clause each call has one, `kernel`, that says how
+//! the kernel's entries change, by which the layer above keeps them to be exactly the parcels that it holds.
+//!
+//! The heap knows whose the bytes are and not what they are: to clear a block is the kernel's work.
+#![tactic(auto)]
+
+mod fit;
+mod heap;
+mod held;
+mod parcel;
+#[cfg(test)]
+mod tests;
+
+pub use heap::Heap;
+pub use held::NotOwner;
+pub use parcel::Parcel;
