@@ -1,6 +1,6 @@
 -- Each turn of a live state leaves fewer to come.
-use Rattle.std.proofs.Common.{◌≡◌, ℕ, ◌+◌, ◌<◌, ◌≤◌, List, [], ◌∷◌, ◌++◌, length, drop, Bool, true, false, refl, ap, ◌∙◌, subst, arith, Option, Some, None, slice_get, is_some}
-use Rattle.std.proofs.lemmas.Bool.{lt-ltb, le-ltb}
+use Rattle.std.proofs.Common.{◌≡◌, ℕ, suc, if◌then◌else◌, nat_lt, ◌+◌, ◌<◌, ◌≤◌, List, [], ◌∷◌, ◌++◌, length, drop, Bool, true, false, refl, ap, ◌∙◌, subst, arith, Option, Some, None, slice_get, is_some}
+use Rattle.std.proofs.lemmas.Bool.{cond-true, lt-ltb, le-ltb}
 use Rattle.std.proofs.lemmas.Option.{none-some, same_Some, slice_get_within}
 use Rattle.std.proofs.lemmas.List.{length-drop}
 use Rattle.mote_base.specs.Messages.{Lists, in_order, front, without_front}
@@ -74,7 +74,11 @@ came_queues images (what.Unload id) k r = unload_queues (module_named k.modules 
 taken_one : (high low : List Message) (m : Message) → slice_get (high ++ low) 0 ≡ Some m → length (in_order (without_front (record { high = high; low = low }))) + 1 ≡ length (high ++ low)
 taken_one [] [] m e = absurd (none-some m e)
 taken_one [] (x ∷ low) m e = omega arith
-taken_one (x ∷ high) low m e = omega arith
+taken_one (x ∷ high) low m e =
+    let same : (if nat_lt 0 (length (x ∷ high)) then low else drop 1 low) ≡ low
+    = cond-true (nat_lt 0 (length (x ∷ high))) low (drop 1 low) (lt-ltb 0 (length (x ∷ high)) (omega arith)) in
+    let one : length (high ++ low) + 1 ≡ suc (length (high ++ low)) = omega arith in
+    ap (λ (ms : List Message). length (high ++ ms) + 1) same ∙ one
 
 dispatch_takes : (s : State) (m : Message) → Good s → front s.kernel.queues ≡ Some m → length (in_order (dispatch (front s.kernel.queues) s.kernel s.runner).kernel.queues) + 1 ≡ length (in_order s.kernel.queues)
 dispatch_takes s m g e =

@@ -21,9 +21,9 @@ use Rattle.domain_model.proofs.ImageLaws.{image_read}
 -- A unit that is decoded is built.
 
 call_built : (a b c : Bool) (u : Unit) → cond a (Some (KernelCall 3)) (cond b (Some (KernelCall 8)) (cond c (Some (KernelCall 11)) None)) ≡ Some u → IsBuilt u
-call_built true b c u e = subst IsBuilt (same_Some (KernelCall 3) u e) tt
-call_built false true c u e = subst IsBuilt (same_Some (KernelCall 8) u e) tt
-call_built false false true u e = subst IsBuilt (same_Some (KernelCall 11) u e) tt
+call_built true b c u e = subst IsBuilt (same_Some (KernelCall 3) u e) refl
+call_built false true c u e = subst IsBuilt (same_Some (KernelCall 8) u e) refl
+call_built false false true u e = subst IsBuilt (same_Some (KernelCall 11) u e) refl
 call_built false false false u e = absurd (none-some u e)
 
 unit_built : (i : Instr) (u : Unit) → IsEncodable i → unit_of i ≡ Some u → IsBuilt u
