@@ -85,7 +85,7 @@ dispatch_takes s m g e =
     let to = receiver_loaded s.kernel s.runner m g.machine e in
     let made : (dispatch (front s.kernel.queues) s.kernel s.runner).kernel.queues ≡ without_front s.kernel.queues
     = ap (λ (o : Option Message). (dispatch o s.kernel s.runner).kernel.queues) e
-    ∙ ap (λ (o : Option ModuleRow). (deliver o m s.kernel s.runner).kernel.queues) to.named in
+    ∙ ap (λ (o : Option ModuleRow). (deliver o m s.kernel s.runner).kernel.queues) to.found in
     ap (λ (q : Lists Message). length (in_order q) + 1) made ∙ taken_one s.kernel.queues.high s.kernel.queues.low m e
 
 -- what a turn makes of a live state has fewer to come

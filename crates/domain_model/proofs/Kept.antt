@@ -86,6 +86,7 @@ module _ {X : Type 0} where
   any_nowhere test [] h = tt
   any_nowhere test (x ∷ xs) h = let parts = or_parts (test x) (list_any test xs) h in (parts.0, any_nowhere test xs parts.1)
 
+  -- a test that passes at what the list contains
   pub any_contained : (test : X → Bool) (xs : List X) (x : X) → Contains xs x → test x ≡ true → list_any test xs ≡ true
   any_contained test [] x c e = absurd (contained_nowhere x c)
   any_contained test (y ∷ ys) x c e =
@@ -94,7 +95,7 @@ module _ {X : Type 0} where
         | inr later ↦ or_right (test y) (list_any test ys) (any_contained test ys x later e)
       ]
 
-  -- what one of two lists contains, each of the two has it as its element
+  -- each of one list and of another behind it
   pub each_either : (P : X → Type 0) (xs ys : List X) → AllByRecursion P xs → AllByRecursion P ys → AllByRecursion P (xs ++ ys)
   each_either P [] ys h k = k
   each_either P (x ∷ xs) ys h k = (h.0, each_either P xs ys h.1 k)

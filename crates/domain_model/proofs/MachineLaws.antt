@@ -196,28 +196,31 @@ pub front_known : (modules : List ModuleRow) (queues : Lists Message) (m : Messa
 front_known modules queues m h e =
     each_at (IsKnown modules) (in_order queues) 0 m (each_either (IsKnown modules) queues.high queues.low h.high h.low) e
 
--- The module to which the first message goes: it is loaded.
-pub record Receiver (k : KernelState) (m : Message) : Type 0 where
-  pub row : ModuleRow
-  pub named : module_named k.modules m.to ≡ Some row
-  pub id_of : row.id ≡ m.to
+-- What is found by an id in a good machine: it has that id, is loaded, and its domain is a domain.
+pub record GoodNamed (k : KernelState) (id : ℕ) (row : ModuleRow) : Type 0 where
+  pub id_of : row.id ≡ id
   pub contained : Contains k.modules row
   pub below : row.domain < domain_count
 
-pub row_below : (k : KernelState) (r : RunnerState) (row : ModuleRow) → GoodMachine k r → Contains k.modules row → row.domain < domain_count
-row_below k r row h c = (each_contained (GoodModule r) k.modules row h.modules c).domain
+pub named_good : (k : KernelState) (r : RunnerState) (id : ℕ) (row : ModuleRow) → GoodMachine k r → module_named k.modules id ≡ Some row → GoodNamed k id row
+named_good k r id row h e =
+    let n = named k.modules id row e in
+    record { id_of = n.id_of; contained = n.contained; below = (each_contained (GoodModule r) k.modules row h.modules n.contained).domain }
+
+-- The module to which the first message goes: it is loaded.
+pub record Receiver (k : KernelState) (m : Message) : Type 0 where
+  pub row : ModuleRow
+  pub found : module_named k.modules m.to ≡ Some row
+  pub good : GoodNamed k m.to row
 
 pub receiver_loaded : (k : KernelState) (r : RunnerState) (m : Message) → GoodMachine k r → front k.queues ≡ Some m → Receiver k m
 receiver_loaded k r m h e =
     let there = loaded_named k.modules m.to (front_known k.modules k.queues m h.queues e).receiver in
-    let n = named k.modules m.to there.0 there.1 in
-    record {
-      row = there.0;
-      named = there.1;
-      id_of = n.id_of;
-      contained = n.contained;
-      below = row_below k r there.0 h n.contained;
-    }
+    record { row = there.0; found = there.1; good = named_good k r m.to there.0 h there.1 }
+
+-- no list has more than sixteen messages
+pub lists_within : (k : KernelState) (r : RunnerState) → GoodMachine k r → (length k.queues.high ≤ queue_limit) × (length k.queues.low ≤ queue_limit)
+lists_within k r h = h.queues.within
 
 -- A module goes out.
 
@@ -440,7 +443,7 @@ with_pair_alike p d w = record { sp = refl; registers = simp length-set refl; me
 same_alike : (p : Processor) → AreAlike p p
 same_alike p = record { sp = refl; registers = refl; memory = refl }
 
--- a post's message is known: its receiver is loaded, and so is its sender
+-- A kernel call.
 module _ (k : KernelState) (r : RunnerState) (run : Running) (h : GoodMachine k r) (e : k.running ≡ Some run) (behind : r.unit + 1 < length (bank r run.domain)) where
   answer_acted : (queues : Lists Message) (answer : ℕ) → GoodQueues k.modules queues → GoodMachine (answered (record k { queues = queues }) answer) (entered r (r.unit + 1))
   answer_acted queues answer good =
@@ -450,6 +453,7 @@ module _ (k : KernelState) (r : RunnerState) (run : Running) (h : GoodMachine k 
   where_acted true m known room = answer_acted (appended m.high m k.queues) 0 (queues_posted k.modules m.high m k.queues known room h.queues)
   where_acted false m known room = answer_acted k.queues 1 h.queues
 
+  -- a post's message is known: its receiver is loaded, and so is its sender, which runs
   to_acted : (b : Bool) → is_loaded k.modules (message_of k run).to ≡ b → GoodMachine (post_to b (message_of k run) k) (entered r (r.unit + 1))
   to_acted true there =
       where_acted (nat_lt (length (list_of (message_of k run).high k.queues)) queue_limit) (message_of k run)
