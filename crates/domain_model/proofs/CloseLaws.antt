@@ -1,5 +1,5 @@
 -- What a handler's end leaves as it was: the clock, the processor, and no more messages than before.
-use Rattle.std.proofs.Common.{◌≡◌, ℕ, ◌≤◌, ◌==◌, not, List, [], ◌∷◌, ◌++◌, length, refl, sym, ap, ◌∙◌, subst, arith, Option, Some, None}
+use Rattle.std.proofs.Common.{◌≡◌, ℕ, ◌≤◌, not, List, [], ◌∷◌, ◌++◌, length, refl, sym, ap, ◌∙◌, subst, arith, Option, Some, None}
 use Rattle.std.proofs.lemmas.Option.{none-some}
 use Rattle.std.proofs.lemmas.List.{length-append}
 use Rattle.mote_base.specs.Messages.{in_order, names}
@@ -10,7 +10,7 @@ use Rattle.domain_model.specs.declared.fault.UnitEnd.{UnitEnd}
 use Rattle.domain_model.specs.declared.fault.UnitEnd.TheVariants.{On, Over, Fault}
 use Rattle.domain_model.specs.declared.line.TraceLine.{TraceLine}
 use Rattle.domain_model.specs.declared.line.TraceLine.TheVariants as line
-use Rattle.domain_model.specs.State.{Processor, Message, KernelState, RunnerState}
+use Rattle.domain_model.specs.State.{Message, KernelState, RunnerState}
 use Rattle.domain_model.specs.Act.{id_at}
 use Rattle.domain_model.specs.Turn.{module_named, without_domain, unnamed, emptied, ended, purged, handler_ended, close_module, close, settled, faulted}
 use Rattle.domain_model.specs.Good.{GoodMachine, GoodEnding}

@@ -65,15 +65,15 @@ module _ {X : Type 0} where
   filter_contained test (y ∷ ys) x c e =
       cond_both (test y) (y ∷ filter test ys) (filter test ys) (λ (zs : List X). Contains zs x)
       (λ kept.
-          elim (contained_cases y ys x c) [
-            | inl same ↦ subst (Contains (y ∷ filter test ys)) same (contained_first (filter test ys) y)
-            | inr later ↦ contained_later y (filter test ys) x (filter_contained test ys x later e)
-          ])
+      elim (contained_cases y ys x c) [
+        | inl same ↦ subst (Contains (y ∷ filter test ys)) same (contained_first (filter test ys) y)
+        | inr later ↦ contained_later y (filter test ys) x (filter_contained test ys x later e)
+      ])
       (λ lost.
-          elim (contained_cases y ys x c) [
-            | inl same ↦ absurd (true≢false (sym (subst (λ (z : X). test z ≡ true) (sym same) e) ∙ lost))
-            | inr later ↦ filter_contained test ys x later e
-          ])
+      elim (contained_cases y ys x c) [
+        | inl same ↦ absurd (true≢false (sym (subst (λ (z : X). test z ≡ true) (sym same) e) ∙ lost))
+        | inr later ↦ filter_contained test ys x later e
+      ])
 
   -- a test that passes somewhere, or nowhere
   pub any_old : (test : X → Bool) (xs : List X) (x : X) → list_any test xs ≡ true → list_any test (xs ++ x ∷ []) ≡ true

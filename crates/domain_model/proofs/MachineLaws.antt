@@ -166,7 +166,7 @@ queues_taken modules queues h = record {
   within = (
     omega (arith, h.within.0, length-drop 1 queues.high),
     cond_both (nat_lt 0 (length queues.high)) queues.low (drop 1 queues.low) (λ (ms : List Message). length ms ≤ queue_limit)
-    (λ first. h.within.1) (λ second. omega (arith, h.within.1, length-drop 1 queues.low)),
+        (λ first. h.within.1) (λ second. omega (arith, h.within.1, length-drop 1 queues.low)),
   );
   high = each_drop (IsKnown modules) queues.high h.high;
   low =

@@ -8,7 +8,7 @@ use Rattle.domain_model.specs.declared.event.What.TheVariants as what
 use Rattle.domain_model.specs.declared.event.Choice.{Choice}
 use Rattle.domain_model.specs.declared.event.Choice.TheVariants.{Stays, Comes, Dispatches, Jumps, Idles, Budgets, Watches, Acts}
 use Rattle.domain_model.specs.declared.fault.UnitEnd.{UnitEnd}
-use Rattle.domain_model.specs.declared.fault.UnitEnd.TheVariants.{On, Over, Fault}
+use Rattle.domain_model.specs.declared.fault.UnitEnd.TheVariants.{Fault}
 use Rattle.domain_model.specs.declared.handler.Running.{Running}
 use Rattle.domain_model.specs.declared.line.TraceLine.{TraceLine}
 use Rattle.domain_model.specs.Image.{Module}

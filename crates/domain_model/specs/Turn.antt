@@ -263,8 +263,8 @@ close (Some id) k r lines = close_module (module_named k.modules id) k r lines
 abbrev pub faulted : FaultNote → Running → KernelState → RunnerState → List TraceLine → Moved
 faulted note run k r lines =
     close k.ending (purged (handler_ended k) (id_at k.modules run.domain) run.domain) (emptied r run.domain) (lines
-        ++ line.Fault k.clock note.rule (id_at k.modules run.domain) r.unit note.address
-        ∷ line.Unload k.clock (id_at k.modules run.domain) ∷ [])
+    ++ line.Fault k.clock note.rule (id_at k.modules run.domain) r.unit note.address
+    ∷ line.Unload k.clock (id_at k.modules run.domain) ∷ [])
 
 -- After a unit, by its end.
 abbrev pub settled : UnitEnd → Running → KernelState → RunnerState → List TraceLine → Moved

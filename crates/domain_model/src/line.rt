@@ -53,7 +53,10 @@ pub enum TraceLine {
         id: u8,
     },
     /// An unload event named no loaded module.
-    Absent { time: u64, id: u8 },
+    Absent {
+        time: u64,
+        id: u8,
+    },
     /// The run ended, for nothing was left to do.
     EndIdle {
         time: u64,
