@@ -1,55 +1,112 @@
--- What one unit does: it changes the processor alone, keeps the stack pointer, and leaves a next unit.
-use Rattle.std.proofs.Common.{◌≡◌, ℕ, zero, suc, ◌+◌, ◌<◌, ◌≤◌, inl, inr, ◌==◌, ◌&&◌, nat_lt, nat_le, List, [], ◌∷◌, length, Bool, true, false, refl, sym, ap, ◌∙◌, subst, arith, Option, Some, None, slice_get}
+-- What one unit does: it changes the processor and the queues alone, keeps the stack pointer, and leaves a next unit.
+use Rattle.std.proofs.Common.{◌≡◌, ℕ, zero, suc, ◌+◌, ◌<◌, ◌≤◌, inl, inr, ◌==◌, ◌&&◌, nat_lt, nat_le, List, [], ◌∷◌, ◌++◌, length, Bool, true, false, refl, sym, ap, ◌∙◌, subst, arith, Option, Some, None, slice_get}
 use Rattle.std.specs.List.{Contains}
-use Rattle.std.proofs.lemmas.Bool.{or_cases, and_parts, ltb-true, leb-true, true≢false}
+use Rattle.std.proofs.lemmas.Bool.{cond_both, or_cases, and_parts, ltb-true, leb-true, true≢false}
 use Rattle.std.proofs.lemmas.Option.{none-some, same_Some}
-use Rattle.std.proofs.lemmas.List.{length-set}
+use Rattle.std.proofs.lemmas.List.{length-set, length-append}
 use Rattle.avr_isa.specs.declared.instruction.Instr.{Instr}
 use Rattle.avr_isa.specs.declared.instruction.Instr.TheVariants.{Ldi, Mov, StX}
+use Rattle.mote_base.specs.Messages.{Lists, list_of, in_order, queue_limit}
 use Rattle.mote_layout.specs.Memory.{ram_start, ram_end, bank_words}
 use Rattle.mote_layout.specs.Blocks.{owns}
 use Rattle.domain_model.specs.declared.unit.Unit.{Unit}
 use Rattle.domain_model.specs.declared.unit.Unit.TheVariants.{Plain, Store, KernelCall, Return}
 use Rattle.domain_model.specs.declared.handler.Running.{Running}
 use Rattle.domain_model.specs.declared.line.TraceLine.TheVariants as line
-use Rattle.domain_model.specs.State.{Processor, KernelState, RunnerState, with_processor}
-use Rattle.domain_model.specs.Act.{Acted, act, act_running, act_at, act_store, act_return, act_call, plain_effect, store_effect, store_address, may_store, bank, next_unit}
-use Rattle.domain_model.specs.Units.{IsBuilt, AreProper, is_return, ends_in_return, say_call}
-use Rattle.domain_model.specs.Good.{GoodMachine, GoodModule, GoodHandler, GoodRunning, GoodHand}
+use Rattle.domain_model.specs.State.{Processor, Message, KernelState, RunnerState}
+use Rattle.domain_model.specs.Act.{act, act_running, act_at, act_store, act_return, act_call, is_loaded, message_of, post_where, post_to, plain_effect, store_effect, store_address, may_store, bank, next_unit}
+use Rattle.domain_model.specs.Units.{IsBuilt, AreProper, Service, PostShort, Say, MyId, service_of, is_return, ends_in_return}
+use Rattle.domain_model.specs.Good.{GoodMachine, GoodModule, GoodHandler, GoodRunning, GoodHand, GoodEnding}
 use Rattle.domain_model.proofs.Kept.{each_at, each_contained, contained_nowhere, contained_cases}
 use Rattle.domain_model.proofs.ModuleLaws.{found}
 use Rattle.domain_model.proofs.BlockLaws.{owned_in_heap}
 
--- A unit changes the processor alone.
+-- A unit changes the processor and the queues alone.
 
-abbrev ProcessorAlone : KernelState → Acted → Type 0
-ProcessorAlone k got = got.kernel ≡ with_processor k got.kernel.processor
+-- the kernel with another processor and other queues
+abbrev pub with_both : KernelState → Processor → Lists Message → KernelState
+with_both k p queues = record k { processor = p; queues = queues }
 
-alone_store : (b : Bool) (i : Instr) (k : KernelState) (r : RunnerState) → ProcessorAlone k (act_store b i k r)
+abbrev Alone : KernelState → KernelState → Type 0
+Alone k n = n ≡ with_both k n.processor n.queues
+
+alone_store : (b : Bool) (i : Instr) (k : KernelState) (r : RunnerState) → Alone k (act_store b i k r).kernel
 alone_store true i k r = refl
 alone_store false i k r = refl
 
-alone_return : (b : Bool) (k : KernelState) (r : RunnerState) → ProcessorAlone k (act_return b k r)
+alone_return : (b : Bool) (k : KernelState) (r : RunnerState) → Alone k (act_return b k r).kernel
 alone_return true k r = refl
 alone_return false k r = refl
 
-alone_call : (b : Bool) (run : Running) (k : KernelState) (r : RunnerState) → ProcessorAlone k (act_call b run k r)
-alone_call true run k r = refl
-alone_call false run k r = refl
+alone_where : (b : Bool) (m : Message) (k : KernelState) → Alone k (post_where b m k)
+alone_where true m k = refl
+alone_where false m k = refl
 
-alone_at : (o : Option Unit) (run : Running) (k : KernelState) (r : RunnerState) → ProcessorAlone k (act_at o run k r)
+alone_to : (b : Bool) (m : Message) (k : KernelState) → Alone k (post_to b m k)
+alone_to true m k = alone_where (nat_lt (length (list_of m.high k.queues)) queue_limit) m k
+alone_to false m k = refl
+
+alone_call : (o : Option Service) (run : Running) (k : KernelState) (r : RunnerState) → Alone k (act_call o run k r).kernel
+alone_call (Some PostShort) run k r = alone_to (is_loaded k.modules (message_of k run).to) (message_of k run) k
+alone_call (Some Say) run k r = refl
+alone_call (Some MyId) run k r = refl
+alone_call None run k r = refl
+
+alone_at : (o : Option Unit) (run : Running) (k : KernelState) (r : RunnerState) → Alone k (act_at o run k r).kernel
 alone_at None run k r = refl
 alone_at (Some (Plain i)) run k r = refl
 alone_at (Some (Store i)) run k r = alone_store (may_store k run (store_address k.processor)) i k r
-alone_at (Some (KernelCall n)) run k r = alone_call (n == say_call) run k r
+alone_at (Some (KernelCall n)) run k r = alone_call (service_of n) run k r
 alone_at (Some Return) run k r = alone_return (k.processor.sp == run.base) k r
 
-alone_running : (o : Option Running) (k : KernelState) (r : RunnerState) → ProcessorAlone k (act_running o k r)
+alone_running : (o : Option Running) (k : KernelState) (r : RunnerState) → Alone k (act_running o k r).kernel
 alone_running None k r = refl
 alone_running (Some run) k r = alone_at (next_unit r run) run k r
 
-pub act_processor_alone : (k : KernelState) (r : RunnerState) → (act k r).kernel ≡ with_processor k (act k r).kernel.processor
-act_processor_alone k r = alone_running k.running k r
+pub act_changes_alone : (k : KernelState) (r : RunnerState) → (act k r).kernel ≡ with_both k (act k r).kernel.processor (act k r).kernel.queues
+act_changes_alone k r = alone_running k.running k r
+
+-- A unit posts one message at most.
+
+more_where : (b : Bool) (m : Message) (k : KernelState) → length (in_order (post_where b m k).queues) ≤ length (in_order k.queues) + 1
+more_where true m k =
+    cond_both m.high (record { high = k.queues.high ++ m ∷ []; low = k.queues.low }) (record { high = k.queues.high; low = k.queues.low ++ m ∷ [] })
+    (λ (q : Lists Message). length (in_order q) ≤ length (in_order k.queues) + 1)
+    (λ high. omega (arith, length-append (k.queues.high ++ m ∷ []) k.queues.low, length-append k.queues.high (m ∷ []), length-append k.queues.high k.queues.low))
+    (λ low. omega (arith, length-append k.queues.high (k.queues.low ++ m ∷ []), length-append k.queues.low (m ∷ []), length-append k.queues.high k.queues.low))
+more_where false m k = omega arith
+
+more_to : (b : Bool) (m : Message) (k : KernelState) → length (in_order (post_to b m k).queues) ≤ length (in_order k.queues) + 1
+more_to true m k = more_where (nat_lt (length (list_of m.high k.queues)) queue_limit) m k
+more_to false m k = omega arith
+
+more_store : (b : Bool) (i : Instr) (k : KernelState) (r : RunnerState) → length (in_order (act_store b i k r).kernel.queues) ≤ length (in_order k.queues) + 1
+more_store true i k r = omega arith
+more_store false i k r = omega arith
+
+more_return : (b : Bool) (k : KernelState) (r : RunnerState) → length (in_order (act_return b k r).kernel.queues) ≤ length (in_order k.queues) + 1
+more_return true k r = omega arith
+more_return false k r = omega arith
+
+more_call : (o : Option Service) (run : Running) (k : KernelState) (r : RunnerState) → length (in_order (act_call o run k r).kernel.queues) ≤ length (in_order k.queues) + 1
+more_call (Some PostShort) run k r = more_to (is_loaded k.modules (message_of k run).to) (message_of k run) k
+more_call (Some Say) run k r = omega arith
+more_call (Some MyId) run k r = omega arith
+more_call None run k r = omega arith
+
+more_at : (o : Option Unit) (run : Running) (k : KernelState) (r : RunnerState) → length (in_order (act_at o run k r).kernel.queues) ≤ length (in_order k.queues) + 1
+more_at None run k r = omega arith
+more_at (Some (Plain i)) run k r = omega arith
+more_at (Some (Store i)) run k r = more_store (may_store k run (store_address k.processor)) i k r
+more_at (Some (KernelCall n)) run k r = more_call (service_of n) run k r
+more_at (Some Return) run k r = more_return (k.processor.sp == run.base) k r
+
+more_running : (o : Option Running) (k : KernelState) (r : RunnerState) → length (in_order (act_running o k r).kernel.queues) ≤ length (in_order k.queues) + 1
+more_running None k r = omega arith
+more_running (Some run) k r = more_at (next_unit r run) run k r
+
+pub act_posts_one : (k : KernelState) (r : RunnerState) → length (in_order (act k r).kernel.queues) ≤ length (in_order k.queues) + 1
+act_posts_one k r = more_running k.running k r
 
 -- Two processors with the same stack pointer, as many registers and as much memory.
 pub record AreAlike (p q : Processor) : Type 0 where
@@ -74,7 +131,7 @@ store_alike _ p = record { sp = refl; registers = refl; memory = refl }
 -- The unit that runs.
 
 -- what is known of the running domain
-pub running_good : (k : KernelState) (r : RunnerState) (run : Running) → GoodMachine k r → k.running ≡ Some run → GoodRunning k r run × GoodHand k.modules k.hand
+pub running_good : (k : KernelState) (r : RunnerState) (run : Running) → GoodMachine k r → k.running ≡ Some run → GoodRunning k r run × GoodHand k.modules k.hand × GoodEnding k run k.ending
 running_good k r run h i = subst (GoodHandler k r) i h.handler
 
 -- the units of a loaded domain are proper
@@ -141,15 +198,17 @@ quiet_return : (b : Bool) (k : KernelState) (r : RunnerState) (time id : ℕ) �
 quiet_return true k r time id c = contained_nowhere (line.Unload time id) c
 quiet_return false k r time id c = contained_nowhere (line.Unload time id) c
 
-quiet_call : (b : Bool) (run : Running) (k : KernelState) (r : RunnerState) (time id : ℕ) → Contains (act_call b run k r).lines (line.Unload time id) → ⊥
-quiet_call true run k r time id c = elim (contained_cases _ [] (line.Unload time id) c) [ inl e ↦ absurd (cc) | inr none ↦ contained_nowhere (line.Unload time id) none ]
-quiet_call false run k r time id c = contained_nowhere (line.Unload time id) c
+quiet_call : (o : Option Service) (run : Running) (k : KernelState) (r : RunnerState) (time id : ℕ) → Contains (act_call o run k r).lines (line.Unload time id) → ⊥
+quiet_call (Some PostShort) run k r time id c = contained_nowhere (line.Unload time id) c
+quiet_call (Some Say) run k r time id c = elim (contained_cases _ [] (line.Unload time id) c) [ inl e ↦ absurd (cc) | inr none ↦ contained_nowhere (line.Unload time id) none ]
+quiet_call (Some MyId) run k r time id c = contained_nowhere (line.Unload time id) c
+quiet_call None run k r time id c = contained_nowhere (line.Unload time id) c
 
 quiet_at : (o : Option Unit) (run : Running) (k : KernelState) (r : RunnerState) (time id : ℕ) → Contains (act_at o run k r).lines (line.Unload time id) → ⊥
 quiet_at None run k r time id c = contained_nowhere (line.Unload time id) c
 quiet_at (Some (Plain i)) run k r time id c = contained_nowhere (line.Unload time id) c
 quiet_at (Some (Store i)) run k r time id c = quiet_store (may_store k run (store_address k.processor)) i k r time id c
-quiet_at (Some (KernelCall n)) run k r time id c = quiet_call (n == say_call) run k r time id c
+quiet_at (Some (KernelCall n)) run k r time id c = quiet_call (service_of n) run k r time id c
 quiet_at (Some Return) run k r time id c = quiet_return (k.processor.sp == run.base) k r time id c
 
 quiet_running : (o : Option Running) (k : KernelState) (r : RunnerState) (time id : ℕ) → Contains (act_running o k r).lines (line.Unload time id) → ⊥

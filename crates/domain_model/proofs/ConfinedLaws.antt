@@ -9,22 +9,22 @@ use Rattle.mote_layout.specs.Blocks.{owns}
 use Rattle.domain_model.specs.declared.unit.Unit.{Unit}
 use Rattle.domain_model.specs.declared.unit.Unit.TheVariants.{Plain, Store, KernelCall, Return}
 use Rattle.domain_model.specs.declared.event.Choice.TheVariants.{Acts}
-use Rattle.domain_model.specs.declared.fault.FaultNote.{FaultNote}
 use Rattle.domain_model.specs.declared.fault.UnitEnd.{UnitEnd}
 use Rattle.domain_model.specs.declared.fault.UnitEnd.TheVariants.{On, Over, Fault}
 use Rattle.domain_model.specs.declared.handler.Running.{Running}
 use Rattle.domain_model.specs.declared.line.TraceLine.{TraceLine}
-use Rattle.domain_model.specs.State.{KernelState, RunnerState, State, register, with_byte}
+use Rattle.domain_model.specs.State.{Processor, KernelState, RunnerState, State, register, with_byte}
 use Rattle.domain_model.specs.Act.{Acted, act, act_running, act_at, act_store, act_return, act_call, store_effect, store_address, may_store, next_unit}
 use Rattle.domain_model.specs.Free.{UnitStep, unit_free, is_dead, is_kernel_byte, calls_kernel, ends_handler, enters_from, enters_kernel, dead_top}
 use Rattle.domain_model.specs.Turn.{settled, at_clock, made, Turn}
 use Rattle.domain_model.specs.Good.{GoodMachine, GoodRunning, Good}
 use Rattle.domain_model.specs.Laws.{MayChange, KeepsOthers, MayChangeAtFault, Confined}
-use Rattle.domain_model.specs.Units.{say_call}
+use Rattle.domain_model.specs.Units.{Service, PostShort, Say, MyId, service_of}
 use Rattle.domain_model.specs.Facts.{IsActing}
 use Rattle.domain_model.proofs.ChoiceLaws.{choice_facts}
 use Rattle.domain_model.proofs.ActLaws.{running_good, store_in_memory, plain_alike, plain_memory, store_alike}
-use Rattle.domain_model.proofs.TurnLaws.{step_processor_alone}
+use Rattle.domain_model.proofs.CloseLaws.{settled_rests}
+use Rattle.domain_model.proofs.TurnLaws.{step_changes_alone, step_queues}
 
 -- The machine's own unit.
 
@@ -62,9 +62,10 @@ stored_bytes _ k run low may = none_differs k run k.processor.memory refl
 record OwnUnit (k : KernelState) (run : Running) (got : Acted) : Type 0 where
   bytes : OwnBytes k run got.kernel.processor.memory
   sp : got.kernel.processor.sp ≡ k.processor.sp
+  queues : got.kernel.queues ≡ k.queues
 
 own_store : (b : Bool) (i : Instr) (k : KernelState) (r : RunnerState) (run : Running) → (b ≡ true → (ram_start ≤ store_address k.processor) × MayChange k run (store_address k.processor)) → ends_handler (act_store b i k r).ending ≡ false → OwnUnit k run (act_store b i k r)
-own_store true i k r run may on = record { bytes = stored_bytes i k run (may refl).0 (may refl).1; sp = (store_alike i k.processor).sp }
+own_store true i k r run may on = record { bytes = stored_bytes i k run (may refl).0 (may refl).1; sp = (store_alike i k.processor).sp; queues = refl }
 own_store false i k r run may on = absurd (cc)
 
 own_return : (b : Bool) (k : KernelState) (r : RunnerState) (run : Running) → ends_handler (act_return b k r).ending ≡ false → OwnUnit k run (act_return b k r)
@@ -73,7 +74,7 @@ own_return false k r run on = absurd (cc)
 
 own_at : (o : Option Unit) (k : KernelState) (r : RunnerState) (run : Running) → GoodMachine k r → k.running ≡ Some run → calls_kernel o ≡ false → ends_handler (act_at o run k r).ending ≡ false → OwnUnit k run (act_at o run k r)
 own_at None k r run h i call on = absurd (cc)
-own_at (Some (Plain u)) k r run h i call on = record { bytes = none_differs k run _ (plain_memory u k.processor); sp = (plain_alike u k.processor).sp }
+own_at (Some (Plain u)) k r run h i call on = record { bytes = none_differs k run _ (plain_memory u k.processor); sp = (plain_alike u k.processor).sp; queues = refl }
 own_at (Some (Store u)) k r run h i call on =
     own_store (may_store k run (store_address k.processor)) u k r run
     (λ e. ((store_in_memory k r run (store_address k.processor) h i e).0, permitted k r run (store_address k.processor) (running_good k r run h i).0 e)) on
@@ -111,10 +112,10 @@ dead_on On old new h = refl
 dead_on Over old new h = absurd (cc)
 dead_on (Fault note) old new h = absurd (cc)
 
-dead_at_fault : (e : UnitEnd) (old new : KernelState) (note : FaultNote) → e ≡ Fault note → dead_top e old new ≡ old.processor.sp
-dead_at_fault On old new note h = absurd (cc)
-dead_at_fault Over old new note h = absurd (cc)
-dead_at_fault (Fault other) old new note h = refl
+dead_at_end : (e : UnitEnd) (old new : KernelState) → ends_handler e ≡ true → dead_top e old new ≡ old.processor.sp
+dead_at_end On old new h = absurd (cc)
+dead_at_end Over old new h = refl
+dead_at_end (Fault other) old new h = refl
 
 -- where no kernel is entered a free byte is a dead one
 free_between : (k : KernelState) (r : RunnerState) (address : ℕ) → enters_kernel k r ≡ false → unit_free k r address ≡ true → is_dead (dead_top (act k r).ending k (act k r).kernel) address ≡ true
@@ -128,13 +129,15 @@ free_between k r address out e =
 step_keeps : (k : KernelState) (r : RunnerState) (got : Acted) (run : Running) → GoodMachine k r → k.running ≡ Some run → UnitStep k r got → enters_kernel k r ≡ false → KeepsOthers k run got.kernel
 step_keeps k r got run h i step out =
     let own = own_running k.running k r run h i i out in
-    let rest = step_processor_alone k r got step in
+    let rest = step_changes_alone k r got step in
     let good = (running_good k r run h i).0 in
     let top : dead_top (act k r).ending k (act k r).kernel ≡ k.processor.sp = dead_on (act k r).ending k (act k r).kernel own.1 ∙ own.0.sp in
     record {
       blocks = ap (λ (n : KernelState). n.blocks) rest;
       modules = ap (λ (n : KernelState). n.modules) rest;
+      queues = step_queues k r got step ∙ own.0.queues;
       hand = ap (λ (n : KernelState). n.hand) rest;
+      ending = ap (λ (n : KernelState). n.ending) rest;
       running = ap (λ (n : KernelState). n.running) rest;
       memory = λ n differs.
           elim (cases_Bool (unit_free k r (n + ram_start))) [
@@ -145,40 +148,42 @@ step_keeps k r got run h i step out =
           ];
     }
 
--- A fault.
+-- A handler's end, by its return or by a fault.
 
-store_fault : (b : Bool) (i : Instr) (k : KernelState) (r : RunnerState) (note : FaultNote) → (act_store b i k r).ending ≡ Fault note → (act_store b i k r).kernel ≡ k
-store_fault true i k r note e = absurd (cc)
-store_fault false i k r note e = refl
+store_end : (b : Bool) (i : Instr) (k : KernelState) (r : RunnerState) → ends_handler (act_store b i k r).ending ≡ true → (act_store b i k r).kernel ≡ k
+store_end true i k r e = absurd (cc)
+store_end false i k r e = refl
 
-return_fault : (b : Bool) (k : KernelState) (r : RunnerState) (note : FaultNote) → (act_return b k r).ending ≡ Fault note → (act_return b k r).kernel ≡ k
-return_fault true k r note e = refl
-return_fault false k r note e = refl
+return_end : (b : Bool) (k : KernelState) (r : RunnerState) → ends_handler (act_return b k r).ending ≡ true → (act_return b k r).kernel ≡ k
+return_end true k r e = refl
+return_end false k r e = refl
 
-call_fault : (b : Bool) (run : Running) (k : KernelState) (r : RunnerState) (note : FaultNote) → (act_call b run k r).ending ≡ Fault note → (act_call b run k r).kernel ≡ k
-call_fault true run k r note e = absurd (cc)
-call_fault false run k r note e = refl
+call_end : (o : Option Service) (run : Running) (k : KernelState) (r : RunnerState) → ends_handler (act_call o run k r).ending ≡ true → (act_call o run k r).kernel ≡ k
+call_end (Some PostShort) run k r e = absurd (cc)
+call_end (Some Say) run k r e = absurd (cc)
+call_end (Some MyId) run k r e = absurd (cc)
+call_end None run k r e = refl
 
-at_fault : (o : Option Unit) (run : Running) (k : KernelState) (r : RunnerState) (note : FaultNote) → (act_at o run k r).ending ≡ Fault note → (act_at o run k r).kernel ≡ k
-at_fault None run k r note e = refl
-at_fault (Some (Plain i)) run k r note e = absurd (cc)
-at_fault (Some (Store i)) run k r note e = store_fault (may_store k run (store_address k.processor)) i k r note e
-at_fault (Some (KernelCall n)) run k r note e = call_fault (n == say_call) run k r note e
-at_fault (Some Return) run k r note e = return_fault (k.processor.sp == run.base) k r note e
+at_end : (o : Option Unit) (run : Running) (k : KernelState) (r : RunnerState) → ends_handler (act_at o run k r).ending ≡ true → (act_at o run k r).kernel ≡ k
+at_end None run k r e = refl
+at_end (Some (Plain i)) run k r e = absurd (cc)
+at_end (Some (Store i)) run k r e = store_end (may_store k run (store_address k.processor)) i k r e
+at_end (Some (KernelCall n)) run k r e = call_end (service_of n) run k r e
+at_end (Some Return) run k r e = return_end (k.processor.sp == run.base) k r e
 
-running_fault : (o : Option Running) (k : KernelState) (r : RunnerState) (note : FaultNote) → (act_running o k r).ending ≡ Fault note → (act_running o k r).kernel ≡ k
-running_fault None k r note e = refl
-running_fault (Some run) k r note e = at_fault (next_unit r run) run k r note e
+running_end : (o : Option Running) (k : KernelState) (r : RunnerState) → ends_handler (act_running o k r).ending ≡ true → (act_running o k r).kernel ≡ k
+running_end None k r e = refl
+running_end (Some run) k r e = at_end (next_unit r run) run k r e
 
--- a unit that faults changes nothing
-pub fault_changes_nothing : (k : KernelState) (r : RunnerState) (note : FaultNote) → (act k r).ending ≡ Fault note → (act k r).kernel ≡ k
-fault_changes_nothing k r note e = running_fault k.running k r note e
+-- a unit that ends its handler changes nothing
+pub end_changes_nothing : (k : KernelState) (r : RunnerState) → ends_handler (act k r).ending ≡ true → (act k r).kernel ≡ k
+end_changes_nothing k r e = running_end k.running k r e
 
 -- so its bytes are free ones
-pub fault_bytes : (k : KernelState) (r : RunnerState) (got : Acted) (note : FaultNote) → UnitStep k r got → (act k r).ending ≡ Fault note → (i : ℕ) → slice_index got.kernel.processor.memory i ≢ slice_index k.processor.memory i → MayChangeAtFault k (i + ram_start)
-fault_bytes k r got note step e i differs =
-    let top = dead_at_fault (act k r).ending k (act k r).kernel note e in
-    let old = ap (λ (n : KernelState). slice_index n.processor.memory i) (fault_changes_nothing k r note e) in
+pub end_bytes : (k : KernelState) (r : RunnerState) (got : Acted) → UnitStep k r got → ends_handler (act k r).ending ≡ true → (i : ℕ) → slice_index got.kernel.processor.memory i ≢ slice_index k.processor.memory i → MayChangeAtFault k (i + ram_start)
+end_bytes k r got step e i differs =
+    let top = dead_at_end (act k r).ending k (act k r).kernel e in
+    let old = ap (λ (n : KernelState). slice_index n.processor.memory i) (end_changes_nothing k r e) in
     elim (cases_Bool (unit_free k r (i + ram_start))) [
       | inl free ↦
           elim (or_cases (is_dead (dead_top (act k r).ending k (act k r).kernel) (i + ram_start)) (enters_kernel k r && is_kernel_byte (i + ram_start)) free) [
@@ -190,17 +195,19 @@ fault_bytes k r got note step e i differs =
       | inr kept ↦ absurd (differs (step.kernel.memory.same i kept ∙ old))
     ]
 
+-- and it posts nothing
+pub end_queues : (k : KernelState) (r : RunnerState) (got : Acted) → UnitStep k r got → ends_handler (act k r).ending ≡ true → got.kernel.queues ≡ k.queues
+end_queues k r got step e = step_queues k r got step ∙ ap (λ (n : KernelState). n.queues) (end_changes_nothing k r e)
+
 -- The turn of a unit.
 
 settled_keeps : (e : UnitEnd) (k : KernelState) (run : Running) (new : KernelState) (r : RunnerState) (lines : List TraceLine) (now : ℕ) → e ≡ On → KeepsOthers k run new → KeepsOthers k run (at_clock (settled e run new r lines).kernel now)
-settled_keeps On k run new r lines now h own = record { blocks = own.blocks; modules = own.modules; hand = own.hand; running = own.running; memory = own.memory }
+settled_keeps On k run new r lines now h own = record { blocks = own.blocks; modules = own.modules; queues = own.queues; hand = own.hand; ending = own.ending; running = own.running; memory = own.memory }
 settled_keeps Over k run new r lines now h own = absurd (cc)
 settled_keeps (Fault note) k run new r lines now h own = absurd (cc)
 
 settled_memory : (e : UnitEnd) (run : Running) (k : KernelState) (r : RunnerState) (lines : List TraceLine) → (settled e run k r lines).kernel.processor.memory ≡ k.processor.memory
-settled_memory On run k r lines = refl
-settled_memory Over run k r lines = refl
-settled_memory (Fault note) run k r lines = refl
+settled_memory e run k r lines = ap (λ (p : Processor). p.memory) (settled_rests e run k r lines).processor
 
 pub turn_confined : (s t : State) (lines : List TraceLine) → Good s → Turn s t lines → Confined s t
 turn_confined s t lines g turn = record {
@@ -217,5 +224,5 @@ turn_confined s t lines g turn = record {
       let to : t ≡ (made (Acts run) s turn.got).state = rw e at turn.to in
       let same : t.kernel.processor.memory ≡ turn.got.kernel.processor.memory
       = ap (λ (x : State). x.kernel.processor.memory) to ∙ settled_memory turn.got.ending run turn.got.kernel turn.got.runner turn.got.lines in
-      fault_bytes s.kernel s.runner turn.got note step fault i (λ e. differs (ap (λ (bytes : List ℕ). slice_index bytes i) same ∙ e));
+      end_bytes s.kernel s.runner turn.got step (ap ends_handler fault) i (λ e. differs (ap (λ (bytes : List ℕ). slice_index bytes i) same ∙ e));
 }

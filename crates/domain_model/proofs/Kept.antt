@@ -1,7 +1,7 @@
 -- What holds of each element of a list, after a change of the list; and what a list contains.
-use Rattle.std.proofs.Common.{◌≡◌, ℕ, ◌⊎◌, inl, inr, List, [], ◌∷◌, ◌++◌, filter, cond, Bool, true, false, drop, refl, ◌∙◌, zero, suc, subst, arith, slice_get, Some}
+use Rattle.std.proofs.Common.{◌≡◌, ℕ, ◌⊎◌, inl, inr, ◌≤◌, List, [], ◌∷◌, ◌++◌, length, filter, cond, Bool, true, false, drop, refl, sym, ◌∙◌, zero, suc, subst, arith, slice_get, Some}
 use Rattle.std.specs.List.{AllByRecursion, Contains, list_any}
-use Rattle.std.proofs.lemmas.Bool.{or_parts, or_left, or_right}
+use Rattle.std.proofs.lemmas.Bool.{true≢false, cond_both, or_parts, or_left, or_right}
 use Rattle.std.proofs.lemmas.Option.{none-some, same_Some}
 use Rattle.std.proofs.lemmas.List.Elements.{All-from_recursion, All-contains}
 use Rattle.std.proofs.lemmas.List.Folds.{list_any-append}
@@ -59,6 +59,22 @@ module _ {X : Type 0} where
       each_itself [] = tt
       each_itself (y ∷ ys) = (contained_first ys y, each_weaker (Contains ys) (Contains (y ∷ ys)) (λ z h. contained_later y ys z h) ys (each_itself ys))
 
+  -- and what was there and passes, it keeps
+  pub filter_contained : (test : X → Bool) (xs : List X) (x : X) → Contains xs x → test x ≡ true → Contains (filter test xs) x
+  filter_contained test [] x c e = absurd (contained_nowhere x c)
+  filter_contained test (y ∷ ys) x c e =
+      cond_both (test y) (y ∷ filter test ys) (filter test ys) (λ (zs : List X). Contains zs x)
+      (λ kept.
+      elim (contained_cases y ys x c) [
+        | inl same ↦ subst (Contains (y ∷ filter test ys)) same (contained_first (filter test ys) y)
+        | inr later ↦ contained_later y (filter test ys) x (filter_contained test ys x later e)
+      ])
+      (λ lost.
+      elim (contained_cases y ys x c) [
+        | inl same ↦ absurd (true≢false (sym (subst (λ (z : X). test z ≡ true) (sym same) e) ∙ lost))
+        | inr later ↦ filter_contained test ys x later e
+      ])
+
   -- a test that passes somewhere, or nowhere
   pub any_old : (test : X → Bool) (xs : List X) (x : X) → list_any test xs ≡ true → list_any test (xs ++ x ∷ []) ≡ true
   any_old test xs x h = list_any-append test xs (x ∷ []) ∙ or_left (list_any test xs) (list_any test (x ∷ [])) h
@@ -69,3 +85,24 @@ module _ {X : Type 0} where
   pub any_nowhere : (test : X → Bool) (xs : List X) → list_any test xs ≡ false → AllByRecursion (λ x. test x ≡ false) xs
   any_nowhere test [] h = tt
   any_nowhere test (x ∷ xs) h = let parts = or_parts (test x) (list_any test xs) h in (parts.0, any_nowhere test xs parts.1)
+
+  -- a test that passes at what the list contains
+  pub any_contained : (test : X → Bool) (xs : List X) (x : X) → Contains xs x → test x ≡ true → list_any test xs ≡ true
+  any_contained test [] x c e = absurd (contained_nowhere x c)
+  any_contained test (y ∷ ys) x c e =
+      elim (contained_cases y ys x c) [
+        | inl same ↦ or_left (test y) (list_any test ys) (subst (λ (z : X). test z ≡ true) (sym same) e)
+        | inr later ↦ or_right (test y) (list_any test ys) (any_contained test ys x later e)
+      ]
+
+  -- each of one list and of another behind it
+  pub each_either : (P : X → Type 0) (xs ys : List X) → AllByRecursion P xs → AllByRecursion P ys → AllByRecursion P (xs ++ ys)
+  each_either P [] ys h k = k
+  each_either P (x ∷ xs) ys h k = (h.0, each_either P xs ys h.1 k)
+
+  -- a filter leaves no more
+  pub filter_shorter : (test : X → Bool) (xs : List X) → length (filter test xs) ≤ length xs
+  filter_shorter test [] = omega arith
+  filter_shorter test (x ∷ xs) =
+      let rest = filter_shorter test xs in
+      cond_both (test x) (x ∷ filter test xs) (filter test xs) (λ (zs : List X). length zs ≤ suc (length xs)) (λ kept. omega (arith, rest)) (λ lost. omega (arith, rest))

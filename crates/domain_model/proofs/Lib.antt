@@ -4,6 +4,7 @@ pub mod ModuleLaws
 pub mod BlockLaws
 pub mod ActLaws
 pub mod MachineLaws
+pub mod CloseLaws
 pub mod TurnLaws
 pub mod FewerLaws
 pub mod StartLaws

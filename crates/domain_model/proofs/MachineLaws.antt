@@ -1,34 +1,35 @@
 -- Kernel and runner stay good: each change of the two on its own.
-use Rattle.std.proofs.Common.{◌≡◌, ◌≢◌, ℕ, ◌+◌, ◌<◌, ◌==◌, not, List, [], ◌∷◌, ◌++◌, length, drop, Bool, true, false, refl, sym, ap, ◌∙◌, subst, arith, Option, Some, None, slice_get}
-use Rattle.std.specs.List.{AllByRecursion}
+use Rattle.std.proofs.Common.{◌≡◌, ◌≢◌, ◌⊎◌, inl, inr, ℕ, ◌+◌, ◌<◌, ◌≤◌, ◌==◌, nat_lt, not, List, [], ◌∷◌, ◌++◌, length, drop, Bool, true, false, refl, sym, ap, ◌∙◌, subst, arith, Option, Some, None, slice_get}
+use Rattle.std.specs.List.{AllByRecursion, Contains}
 use Rattle.std.specs.Option.{unwrap_or}
-use Rattle.std.proofs.lemmas.Bool.{eqb-false, or_parts}
+use Rattle.std.proofs.lemmas.Bool.{eqb-false, or_parts, cond_both, ltb-true, not-true}
 use Rattle.std.proofs.lemmas.Option.{unwrap_or-slice_get}
 use Rattle.std.proofs.lemmas.List.{length-set, length-append, length-drop, get_or-set_same, get_or-set_other}
 use Rattle.avr_isa.specs.declared.instruction.Instr.{Instr}
-use Rattle.mote_layout.specs.Memory.{domain_count, ram_bytes, message_frame_bytes}
+use Rattle.mote_base.specs.Messages.{Lists, queue_limit, list_of, in_order, front, without_front, appended, names}
+use Rattle.mote_layout.specs.Memory.{domain_count, ram_bytes, message_frame_bytes, stack_top}
 use Rattle.mote_layout.proofs.BlockLists.{AreBlocks-without_owner}
 use Rattle.domain_model.specs.declared.unit.Unit.{Unit}
 use Rattle.domain_model.specs.declared.unit.Unit.TheVariants.{Plain, Store, KernelCall, Return}
 use Rattle.domain_model.specs.declared.module.ModuleRow.{ModuleRow}
 use Rattle.domain_model.specs.declared.handler.Running.{Running}
-use Rattle.domain_model.specs.declared.handler.Message.{Message}
 use Rattle.domain_model.specs.declared.event.What.{What}
 use Rattle.domain_model.specs.declared.event.What.TheVariants as what
+use Rattle.domain_model.specs.declared.fault.FaultNote.{FaultNote}
 use Rattle.domain_model.specs.declared.fault.UnitEnd.{UnitEnd}
 use Rattle.domain_model.specs.declared.fault.UnitEnd.TheVariants.{On, Over, Fault}
 use Rattle.domain_model.specs.declared.line.TraceLine.{TraceLine}
 use Rattle.domain_model.specs.Image.{Module}
-use Rattle.domain_model.specs.Units.{AreProper, say_call}
-use Rattle.domain_model.specs.State.{Processor, KernelState, RunnerState, with_processor, with_pair, frame_of, dispatched}
-use Rattle.domain_model.specs.Act.{Acted, act, act_running, act_at, act_store, act_return, act_call, plain_effect, store_effect, store_address, may_store, bank, next_unit}
+use Rattle.domain_model.specs.Units.{AreProper, Service, PostShort, Say, MyId, service_of}
+use Rattle.domain_model.specs.State.{Processor, Message, KernelState, RunnerState, with_processor, with_pair, frame_of, dispatched}
+use Rattle.domain_model.specs.Act.{Acted, act, act_running, act_at, act_store, act_return, act_call, answered, id_at, is_loaded, message_of, post_where, post_to, plain_effect, store_effect, store_address, may_store, bank, next_unit}
 use Rattle.domain_model.specs.Free.{SameKernel, with_memory, unit_free, UnitStep}
-use Rattle.domain_model.specs.Turn.{in_use, is_loaded, free_domain, Given, given, row_of, init_to, Moved, loaded, load_given, load_in, load_new, load_image, came, settled, purged, handler_ended, at_clock, placed, emptied, entered}
-use Rattle.domain_model.specs.Good.{GoodProcessor, GoodModule, GoodMachine, GoodHandler, GoodRunning, GoodImage, IsGoodImage}
-use Rattle.domain_model.proofs.Kept.{each_weaker, each_filter, each_push, each_at}
-use Rattle.domain_model.proofs.ModuleLaws.{in_use_old, in_use_new, is_loaded_new, other_domain, all_apart, distinct_push, distinct_filter}
+use Rattle.domain_model.specs.Turn.{in_use, module_named, without_domain, unnamed, free_domain, Given, given, row_of, init_to, final_to, Moved, loaded, load_given, load_in, load_new, load_image, unload_module, deliver, dispatch, begun, came, ended, close_module, close, settled, faulted, purged, handler_ended, at_clock, placed, emptied, entered}
+use Rattle.domain_model.specs.Good.{GoodProcessor, GoodModule, GoodMachine, GoodHandler, GoodRunning, GoodEnding, GoodQueues, IsKnown, AreDistinct, GoodImage, IsGoodImage}
+use Rattle.domain_model.proofs.Kept.{each_weaker, each_filter, each_push, each_at, each_drop, each_contained, each_either, filter_shorter}
+use Rattle.domain_model.proofs.ModuleLaws.{found, found_id, named, loaded_named, contained_loaded, contained_in_use, id_at_loaded, id_at_row, is_loaded_old, is_loaded_without, in_use_old, in_use_new, is_loaded_new, other_domain, all_apart, distinct_push, distinct_filter}
 use Rattle.domain_model.proofs.BlockLaws.{GoodGiven, given_good, free_domain_is_free, owned_more, owned_without}
-use Rattle.domain_model.proofs.ActLaws.{AreAlike, plain_alike, store_alike, running_good, unit_behind}
+use Rattle.domain_model.proofs.ActLaws.{with_both, AreAlike, plain_alike, store_alike, running_good, unit_behind}
 
 -- The banks.
 
@@ -61,14 +62,15 @@ modules_kept r s e ms h = each_weaker (GoodModule r) (GoodModule s) (λ m. modul
 alike_good : (p q : Processor) → AreAlike p q → GoodProcessor p → GoodProcessor q
 alike_good p q a h = record { registers = a.registers ∙ h.registers; memory = a.memory ∙ h.memory }
 
-kept_good : (k n : KernelState) (r s : RunnerState) → n.modules ≡ k.modules → n.blocks ≡ k.blocks → s.banks ≡ r.banks → GoodProcessor n.processor → GoodHandler n s n.running → GoodMachine k r → GoodMachine n s
-kept_good k n r s modules blocks banks processor handler h = record {
+kept_good : (k n : KernelState) (r s : RunnerState) → n.modules ≡ k.modules → n.blocks ≡ k.blocks → n.queues ≡ k.queues → s.banks ≡ r.banks → GoodProcessor n.processor → GoodHandler n s n.running → GoodMachine k r → GoodMachine n s
+kept_good k n r s modules blocks queues banks processor handler h = record {
   processor = processor;
   banks = ap (λ (bs : List (List Unit)). length bs) banks ∙ h.banks;
   modules = rw modules (modules_kept r s banks k.modules h.modules);
   distinct = rw modules h.distinct;
   blocks = rw blocks h.blocks;
   owners = rw (modules, blocks) h.owners;
+  queues = rw (modules, queues) h.queues;
   handler = handler;
 }
 
@@ -82,43 +84,180 @@ running_kept k n r s run sp modules unit h = record {
   top = h.top;
 }
 
+-- the module that ends still runs
+ending_kept : (k n : KernelState) (run : Running) (o : Option ℕ) → n.modules ≡ k.modules → GoodEnding k run o → GoodEnding n run o
+ending_kept k n run None modules h = tt
+ending_kept k n run (Some id) modules h = h ∙ ap (λ (ms : List ModuleRow). id_at ms run.domain) (sym modules)
+
 -- the same unit is next: the stack pointer, the modules and the message in hand are the same
-handler_kept : (o : Option Running) (k n : KernelState) (r : RunnerState) → n.processor.sp ≡ k.processor.sp → n.modules ≡ k.modules → n.hand ≡ k.hand → GoodHandler k r o → GoodHandler n r o
-handler_kept None k n r sp modules hand h = hand ∙ h
-handler_kept (Some run) k n r sp modules hand h =
-    (running_kept k n r r run sp modules h.0.unit h.0, rw (modules, hand) h.1)
+handler_kept : (o : Option Running) (k n : KernelState) (r : RunnerState) → n.processor.sp ≡ k.processor.sp → n.modules ≡ k.modules → n.hand ≡ k.hand → n.ending ≡ k.ending → GoodHandler k r o → GoodHandler n r o
+handler_kept None k n r sp modules hand ending h = (hand ∙ h.0, ending ∙ h.1)
+handler_kept (Some run) k n r sp modules hand ending h = (
+  running_kept k n r r run sp modules h.0.unit h.0,
+  rw (modules, hand) h.1,
+  subst (GoodEnding n run) (sym ending) (ending_kept k n run k.ending modules h.2),
+)
 
 pub clock_good : (k : KernelState) (r : RunnerState) (now : ℕ) → GoodMachine k r → GoodMachine (at_clock k now) r
 clock_good k r now h =
-    kept_good k (at_clock k now) r r refl refl refl h.processor (handler_kept k.running k (at_clock k now) r refl refl refl h.handler) h
+    kept_good k (at_clock k now) r r refl refl refl refl h.processor (handler_kept k.running k (at_clock k now) r refl refl refl refl h.handler) h
 
 pub memory_good : (k : KernelState) (r : RunnerState) (memory : List ℕ) → length memory ≡ length k.processor.memory → GoodMachine k r → GoodMachine (with_memory k memory) r
 memory_good k r memory same h =
-    kept_good k (with_memory k memory) r r refl refl refl (record { registers = h.processor.registers; memory = same ∙ h.processor.memory })
-    (handler_kept k.running k (with_memory k memory) r refl refl refl h.handler) h
+    kept_good k (with_memory k memory) r r refl refl refl refl (record { registers = h.processor.registers; memory = same ∙ h.processor.memory })
+    (handler_kept k.running k (with_memory k memory) r refl refl refl refl h.handler) h
 
 -- whatever the free bytes became
 pub same_kernel_good : (free : ℕ → Bool) (want got : KernelState) (r : RunnerState) → SameKernel free want got → GoodMachine want r → GoodMachine got r
 same_kernel_good free want got r same h =
     subst (λ (k : KernelState). GoodMachine k r) (sym same.rest) (memory_good want r got.processor.memory same.memory.same_length h)
 
-pub ended_good : (k : KernelState) (r : RunnerState) → GoodMachine k r → GoodMachine (handler_ended k) r
-ended_good k r h = kept_good k (handler_ended k) r r refl refl refl h.processor refl h
+-- no handler runs and no module ends
+pub ended_good : (k : KernelState) (r : RunnerState) → GoodMachine k r → GoodMachine (ended (handler_ended k)) r
+ended_good k r h = kept_good k (ended (handler_ended k)) r r refl refl refl refl h.processor (refl, refl) h
+
+-- Messages that wait.
+
+-- what is known stays so where more ids are loaded
+known_more : (modules more : List ModuleRow) → ((id : ℕ) → is_loaded modules id ≡ true → is_loaded more id ≡ true) → (m : Message) → IsKnown modules m → IsKnown more m
+known_more modules more f m h = record { receiver = f m.to h.receiver; sender = still h.sender }
+  where
+    still : ((m.from ≡ 0) ⊎ (m.from ≡ 255)) ⊎ (is_loaded modules m.from ≡ true) → ((m.from ≡ 0) ⊎ (m.from ≡ 255)) ⊎ (is_loaded more m.from ≡ true)
+    still (inl other) = inl other
+    still (inr there) = inr (f m.from there)
+
+queues_more : (modules more : List ModuleRow) (queues : Lists Message) → ((id : ℕ) → is_loaded modules id ≡ true → is_loaded more id ≡ true) → GoodQueues modules queues → GoodQueues more queues
+queues_more modules more queues f h = record {
+  within = h.within;
+  high = each_weaker (IsKnown modules) (IsKnown more) (known_more modules more f) queues.high h.high;
+  low = each_weaker (IsKnown modules) (IsKnown more) (known_more modules more f) queues.low h.low;
+}
+
+-- where a module goes out, what doesn't name it
+known_without : (modules : List ModuleRow) (row : ModuleRow) → AreDistinct modules → Contains modules row → (m : Message) → not (names row.id m) ≡ true → IsKnown modules m → IsKnown (without_domain row.domain modules) m
+known_without modules row d c m kept h =
+    let parts = or_parts (m.from == row.id) (m.to == row.id) (not-true (names row.id m) kept) in
+    record {
+      receiver = is_loaded_without modules row m.to d c (eqb-false m.to row.id parts.1) h.receiver;
+      sender = still (eqb-false m.from row.id parts.0) h.sender;
+    }
+  where
+    still : m.from ≢ row.id → ((m.from ≡ 0) ⊎ (m.from ≡ 255)) ⊎ (is_loaded modules m.from ≡ true) → ((m.from ≡ 0) ⊎ (m.from ≡ 255)) ⊎ (is_loaded (without_domain row.domain modules) m.from ≡ true)
+    still ne (inl other) = inl other
+    still ne (inr there) = inr (is_loaded_without modules row m.from d c ne there)
+
+queues_without : (modules : List ModuleRow) (row : ModuleRow) (queues : Lists Message) → AreDistinct modules → Contains modules row → GoodQueues modules queues → GoodQueues (without_domain row.domain modules) (unnamed row.id queues)
+queues_without modules row queues d c h = record {
+  within = (
+    omega (arith, h.within.0, filter_shorter (λ (m : Message). not (names row.id m)) queues.high),
+    omega (arith, h.within.1, filter_shorter (λ (m : Message). not (names row.id m)) queues.low),
+  );
+  high =
+      each_filter (IsKnown modules) (IsKnown (without_domain row.domain modules)) (λ (m : Message). not (names row.id m))
+      (known_without modules row d c) queues.high h.high;
+  low =
+      each_filter (IsKnown modules) (IsKnown (without_domain row.domain modules)) (λ (m : Message). not (names row.id m))
+      (known_without modules row d c) queues.low h.low;
+}
+
+-- without the front
+queues_taken : (modules : List ModuleRow) (queues : Lists Message) → GoodQueues modules queues → GoodQueues modules (without_front queues)
+queues_taken modules queues h = record {
+  within = (
+    omega (arith, h.within.0, length-drop 1 queues.high),
+    cond_both (nat_lt 0 (length queues.high)) queues.low (drop 1 queues.low) (λ (ms : List Message). length ms ≤ queue_limit)
+        (λ first. h.within.1) (λ second. omega (arith, h.within.1, length-drop 1 queues.low)),
+  );
+  high = each_drop (IsKnown modules) queues.high h.high;
+  low =
+      cond_both (nat_lt 0 (length queues.high)) queues.low (drop 1 queues.low) (AllByRecursion (IsKnown modules))
+      (λ first. h.low) (λ second. each_drop (IsKnown modules) queues.low h.low);
+}
+
+-- one more where there is room
+queues_posted : (modules : List ModuleRow) (high : Bool) (m : Message) (queues : Lists Message) → IsKnown modules m → nat_lt (length (list_of high queues)) queue_limit ≡ true → GoodQueues modules queues → GoodQueues modules (appended high m queues)
+queues_posted modules true m queues known room h =
+    let below = ltb-true (length queues.high) queue_limit room in
+    record {
+      within = (omega (arith, below, length-append queues.high (m ∷ [])), h.within.1);
+      high = each_push (IsKnown modules) queues.high m h.high known;
+      low = h.low;
+    }
+queues_posted modules false m queues known room h =
+    let below = ltb-true (length queues.low) queue_limit room in
+    record {
+      within = (h.within.0, omega (arith, below, length-append queues.low (m ∷ [])));
+      high = h.high;
+      low = each_push (IsKnown modules) queues.low m h.low known;
+    }
+
+-- the front is known
+pub front_known : (modules : List ModuleRow) (queues : Lists Message) (m : Message) → GoodQueues modules queues → front queues ≡ Some m → IsKnown modules m
+front_known modules queues m h e =
+    each_at (IsKnown modules) (in_order queues) 0 m (each_either (IsKnown modules) queues.high queues.low h.high h.low) e
+
+-- What is found by an id in a good machine: it has that id, is loaded, and its domain is a domain.
+pub record GoodNamed (k : KernelState) (id : ℕ) (row : ModuleRow) : Type 0 where
+  pub id_of : row.id ≡ id
+  pub contained : Contains k.modules row
+  pub below : row.domain < domain_count
+
+pub named_good : (k : KernelState) (r : RunnerState) (id : ℕ) (row : ModuleRow) → GoodMachine k r → module_named k.modules id ≡ Some row → GoodNamed k id row
+named_good k r id row h e =
+    let n = named k.modules id row e in
+    record { id_of = n.id_of; contained = n.contained; below = (each_contained (GoodModule r) k.modules row h.modules n.contained).domain }
+
+-- The module to which the first message goes: it is loaded.
+pub record Receiver (k : KernelState) (m : Message) : Type 0 where
+  pub row : ModuleRow
+  pub found : module_named k.modules m.to ≡ Some row
+  pub good : GoodNamed k m.to row
+
+pub receiver_loaded : (k : KernelState) (r : RunnerState) (m : Message) → GoodMachine k r → front k.queues ≡ Some m → Receiver k m
+receiver_loaded k r m h e =
+    let there = loaded_named k.modules m.to (front_known k.modules k.queues m h.queues e).receiver in
+    record { row = there.0; found = there.1; good = named_good k r m.to there.0 h there.1 }
+
+-- no list has more than sixteen messages
+pub lists_within : (k : KernelState) (r : RunnerState) → GoodMachine k r → (length k.queues.high ≤ queue_limit) × (length k.queues.low ≤ queue_limit)
+lists_within k r h = h.queues.within
 
 -- A module goes out.
 
-pub purged_good : (k : KernelState) (r : RunnerState) (domain : ℕ) → GoodMachine k r → GoodMachine (purged (handler_ended k) domain) (emptied r domain)
-purged_good k r domain h = record {
+pub purged_good : (k : KernelState) (r : RunnerState) (row : ModuleRow) → GoodMachine k r → Contains k.modules row → GoodMachine (ended (purged (handler_ended k) row.id row.domain)) (emptied r row.domain)
+purged_good k r row h c = record {
   processor = h.processor;
-  banks = length-set r.banks domain [] ∙ h.banks;
+  banks = length-set r.banks row.domain [] ∙ h.banks;
   modules =
-      each_filter (GoodModule r) (GoodModule (emptied r domain)) (λ (m : ModuleRow). not (m.domain == domain))
-      (λ m kept g. module_kept r (emptied r domain) m (bank_other r domain m.domain [] (other_domain m.domain domain kept)) g) k.modules h.modules;
-  distinct = distinct_filter (λ (m : ModuleRow). not (m.domain == domain)) k.modules h.distinct;
-  blocks = AreBlocks-without_owner domain k.blocks h.blocks;
-  owners = owned_without k.modules domain k.blocks h.owners;
-  handler = refl;
+      each_filter (GoodModule r) (GoodModule (emptied r row.domain)) (λ (m : ModuleRow). not (m.domain == row.domain))
+      (λ m kept g. module_kept r (emptied r row.domain) m (bank_other r row.domain m.domain [] (other_domain m.domain row.domain kept)) g) k.modules h.modules;
+  distinct = distinct_filter (λ (m : ModuleRow). not (m.domain == row.domain)) k.modules h.distinct;
+  blocks = AreBlocks-without_owner row.domain k.blocks h.blocks;
+  owners = owned_without k.modules row.domain k.blocks h.owners;
+  queues = queues_without k.modules row k.queues h.distinct c h.queues;
+  handler = (refl, refl);
 }
+
+-- the module of the running domain
+running_purged : (k : KernelState) (r : RunnerState) (domain : ℕ) → GoodMachine k r → in_use k.modules domain ≡ true → GoodMachine (ended (purged (handler_ended k) (id_at k.modules domain) domain)) (emptied r domain)
+running_purged k r domain h used =
+    let f = found k.modules domain used in
+    subst (λ (id : ℕ). GoodMachine (ended (purged (handler_ended k) id domain)) (emptied r domain)) (sym (found_id k.modules domain f))
+    (subst (λ (d : ℕ). GoodMachine (ended (purged (handler_ended k) f.row.id d)) (emptied r d)) f.domain_of (purged_good k r f.row h f.contained))
+
+-- A handler's end, by the module that ends.
+
+abbrev GoodMoved : Moved → Type 0
+GoodMoved m = GoodMachine m.kernel m.runner
+
+module_closed : (o : Option ModuleRow) (k : KernelState) (r : RunnerState) (lines : List TraceLine) → ((row : ModuleRow) → o ≡ Some row → Contains k.modules row) → GoodMachine (ended (handler_ended k)) r → GoodMoved (close_module o (handler_ended k) r lines)
+module_closed None k r lines c h = h
+module_closed (Some row) k r lines c h = purged_good (ended (handler_ended k)) r row h (c row refl)
+
+closed_good : (o : Option ℕ) (k : KernelState) (r : RunnerState) (lines : List TraceLine) → k.ending ≡ o → GoodMachine (ended (handler_ended k)) r → GoodMoved (close o (handler_ended k) r lines)
+closed_good None k r lines e h = subst (λ (o : Option ℕ). GoodMachine (record (handler_ended k) { ending = o }) r) (sym e) h
+closed_good (Some id) k r lines e h =
+    module_closed (module_named k.modules id) k r lines (λ row at. (named k.modules id row at).contained) h
 
 -- A module comes in, and its handler starts.
 
@@ -150,8 +289,8 @@ dispatched_good p state m memory = record {
   memory = length-append (frame_of m) (drop message_frame_bytes p.memory) ∙ omega (arith, memory, length-drop 16 p.memory);
 }
 
-pub loaded_good : (k : KernelState) (r : RunnerState) (m : Module) (domain : ℕ) (g : Given) → GoodMachine k r → GoodImage m → domain < domain_count → in_use k.modules domain ≡ false → is_loaded k.modules m.id ≡ false → GoodGiven k domain g → GoodMachine (loaded m domain g k r).kernel (loaded m domain g k r).runner
-loaded_good k r m domain g h image below unused unloaded block =
+pub loaded_good : (k : KernelState) (r : RunnerState) (m : Module) (domain : ℕ) (g : Given) → k.ending ≡ None → GoodMachine k r → GoodImage m → domain < domain_count → in_use k.modules domain ≡ false → is_loaded k.modules m.id ≡ false → GoodGiven k domain g → GoodMachine (loaded m domain g k r).kernel (loaded m domain g k r).runner
+loaded_good k r m domain g quiet h image below unused unloaded block =
     let same = bank_same r domain m.units (omega (arith, h.banks, below)) in
     record {
       processor = dispatched_good (record k.processor { memory = g.memory }) g.address (init_to m.id) (block.memory ∙ h.processor.memory);
@@ -165,6 +304,8 @@ loaded_good k r m domain g h image below unused unloaded block =
           block.owners (k.modules ++ row_of m domain g ∷ [])
           (owned_more k.modules (k.modules ++ row_of m domain g ∷ []) (in_use_old k.modules (row_of m domain g)) k.blocks h.owners)
           (in_use_new k.modules (row_of m domain g));
+      queues =
+          queues_more k.modules (k.modules ++ row_of m domain g ∷ []) k.queues (is_loaded_old k.modules (row_of m domain g)) h.queues;
       handler = (
         record {
           loaded = in_use_new k.modules (row_of m domain g);
@@ -174,52 +315,122 @@ loaded_good k r m domain g h image below unused unloaded block =
           bound = omega arith;
           top = (refl, refl);
         },
-        is_loaded_new k.modules (row_of m domain g),
+        record { receiver = is_loaded_new k.modules (row_of m domain g); sender = inl (inl refl) },
+        rw quiet tt,
       );
     }
 
+-- A loaded module's handler starts.
+
+started : (k : KernelState) (r : RunnerState) (row : ModuleRow) (m : Message) (queues : Lists Message) (o : Option ℕ) → GoodMachine k r → Contains k.modules row → GoodQueues k.modules queues → IsKnown k.modules m → GoodEnding k (record { domain = row.domain; base = stack_top; bound = stack_top }) o → GoodMachine (record (begun (record k { queues = queues }) row m) { ending = o }) (entered r row.handler)
+started k r row m queues o h c waiting known ending = record {
+  processor = dispatched_good k.processor row.state m h.processor.memory;
+  banks = h.banks;
+  modules = modules_kept r (entered r row.handler) refl k.modules h.modules;
+  distinct = h.distinct;
+  blocks = h.blocks;
+  owners = h.owners;
+  queues = waiting;
+  handler = (
+    record {
+      loaded = contained_in_use k.modules row c;
+      unit = (each_contained (GoodModule r) k.modules row h.modules c).handler;
+      floor = omega arith;
+      base = omega arith;
+      bound = omega arith;
+      top = (refl, refl);
+    },
+    known,
+    ending_kept k (record (begun (record k { queues = queues }) row m) { ending = o }) (record { domain = row.domain; base = stack_top; bound = stack_top }) o refl ending,
+  );
+}
+
 -- A load, by the first reason for which it is refused.
 
-abbrev GoodMoved : Moved → Type 0
-GoodMoved m = GoodMachine m.kernel m.runner
+module _ (k : KernelState) (r : RunnerState) (quiet : k.ending ≡ None) (h : GoodMachine k r) where
+  given_moved : (o : Option Given) (m : Module) (domain image : ℕ) → GoodImage m → domain < domain_count → in_use k.modules domain ≡ false → is_loaded k.modules m.id ≡ false → given k domain m.state_size ≡ o → GoodMoved (load_given o m domain image k r)
+  given_moved None m domain image good below unused unloaded e = h
+  given_moved (Some g) m domain image good below unused unloaded e =
+      loaded_good k r m domain g quiet h good below unused unloaded (given_good k domain m.state_size g h.blocks h.processor.memory below e)
 
-given_moved : (o : Option Given) (m : Module) (domain image : ℕ) (k : KernelState) (r : RunnerState) → GoodMachine k r → GoodImage m → domain < domain_count → in_use k.modules domain ≡ false → is_loaded k.modules m.id ≡ false → given k domain m.state_size ≡ o → GoodMoved (load_given o m domain image k r)
-given_moved None m domain image k r h good below unused unloaded e = h
-given_moved (Some g) m domain image k r h good below unused unloaded e =
-    loaded_good k r m domain g h good below unused unloaded (given_good k domain m.state_size g h.blocks h.processor.memory below e)
+  in_moved : (o : Option ℕ) (m : Module) (image : ℕ) → GoodImage m → is_loaded k.modules m.id ≡ false → free_domain k.modules ≡ o → GoodMoved (load_in o m image k r)
+  in_moved None m image good unloaded e = h
+  in_moved (Some domain) m image good unloaded e =
+      let free = free_domain_is_free k.modules domain e in
+      given_moved (given k domain m.state_size) m domain image good free.0 free.1 unloaded refl
 
-in_moved : (o : Option ℕ) (m : Module) (image : ℕ) (k : KernelState) (r : RunnerState) → GoodMachine k r → GoodImage m → is_loaded k.modules m.id ≡ false → free_domain k.modules ≡ o → GoodMoved (load_in o m image k r)
-in_moved None m image k r h good unloaded e = h
-in_moved (Some domain) m image k r h good unloaded e =
-    let free = free_domain_is_free k.modules domain e in
-    given_moved (given k domain m.state_size) m domain image k r h good free.0 free.1 unloaded refl
+  new_moved : (b : Bool) (m : Module) (image : ℕ) → GoodImage m → is_loaded k.modules m.id ≡ b → GoodMoved (load_new b m image k r)
+  new_moved true m image good e = h
+  new_moved false m image good e = in_moved (free_domain k.modules) m image good e refl
 
-new_moved : (b : Bool) (m : Module) (image : ℕ) (k : KernelState) (r : RunnerState) → GoodMachine k r → GoodImage m → is_loaded k.modules m.id ≡ b → GoodMoved (load_new b m image k r)
-new_moved true m image k r h good e = h
-new_moved false m image k r h good e = in_moved (free_domain k.modules) m image k r h good e refl
+  image_moved : (o : Option (Option Module)) (images : List (Option Module)) (image : ℕ) → AllByRecursion IsGoodImage images → slice_get images image ≡ o → GoodMoved (load_image o image k r)
+  image_moved None images image good e = h
+  image_moved (Some None) images image good e = h
+  image_moved (Some (Some m)) images image good e =
+      new_moved (is_loaded k.modules m.id) m image (each_at IsGoodImage images image (Some m) good e) refl
 
-image_moved : (o : Option (Option Module)) (images : List (Option Module)) (image : ℕ) (k : KernelState) (r : RunnerState) → GoodMachine k r → AllByRecursion IsGoodImage images → slice_get images image ≡ o → GoodMoved (load_image o image k r)
-image_moved None images image k r h good e = h
-image_moved (Some None) images image k r h good e = h
-image_moved (Some (Some m)) images image k r h good e =
-    new_moved (is_loaded k.modules m.id) m image k r h (each_at IsGoodImage images image (Some m) good e) refl
+  -- an unload starts the module's last handler
+  unload_moved : (o : Option ModuleRow) (id : ℕ) → module_named k.modules id ≡ o → GoodMoved (unload_module o id k r)
+  unload_moved None id e = h
+  unload_moved (Some row) id e =
+      let n = named k.modules id row e in
+      started k r row (final_to id) k.queues (Some id) h n.contained h.queues
+      (record { receiver = subst (λ (i : ℕ). is_loaded k.modules i ≡ true) n.id_of (contained_loaded k.modules row n.contained); sender = inl (inl refl) })
+      (sym n.id_of ∙ sym (id_at_row k.modules row h.distinct n.contained))
 
-pub came_good : (images : List (Option Module)) (w : What) (k : KernelState) (r : RunnerState) → GoodMachine k r → AllByRecursion IsGoodImage images → GoodMachine (came images w k r).kernel (came images w k r).runner
-came_good images (what.Load n) k r h good = image_moved (slice_get images n) images n k r h good refl
+  -- a dispatch starts the receiver's handler
+  deliver_moved : (o : Option ModuleRow) (m : Message) → front k.queues ≡ Some m → module_named k.modules m.to ≡ o → GoodMoved (deliver o m k r)
+  deliver_moved None m first e = h
+  deliver_moved (Some row) m first e =
+      let n = named k.modules m.to row e in
+      subst (λ (o : Option ℕ). GoodMachine (record (begun (record k { queues = without_front k.queues }) row m) { ending = o }) (entered r row.handler)) (sym quiet)
+      (started k r row m (without_front k.queues) None h n.contained (queues_taken k.modules k.queues h.queues) (front_known k.modules k.queues m h.queues first) tt)
+
+  dispatch_moved : (o : Option Message) → front k.queues ≡ o → GoodMoved (dispatch o k r)
+  dispatch_moved None first = h
+  dispatch_moved (Some m) first = deliver_moved (module_named k.modules m.to) m first refl
+
+  came_moved : (images : List (Option Module)) (w : What) → AllByRecursion IsGoodImage images → GoodMoved (came images w k r)
+  came_moved images (what.Load n) good = image_moved (slice_get images n) images n good refl
+  came_moved images (what.Unload id) good = unload_moved (module_named k.modules id) id refl
+
+-- outside a handler no module ends
+pub none_ends : (k : KernelState) (r : RunnerState) → GoodMachine k r → k.running ≡ None → k.ending ≡ None
+none_ends k r h out = (subst (GoodHandler k r) out h.handler).1
+
+pub came_good : (images : List (Option Module)) (w : What) (k : KernelState) (r : RunnerState) → GoodMachine k r → k.running ≡ None → AllByRecursion IsGoodImage images → GoodMachine (came images w k r).kernel (came images w k r).runner
+came_good images w k r h out good = came_moved k r (none_ends k r h out) h images w good
+
+pub dispatch_good : (k : KernelState) (r : RunnerState) → GoodMachine k r → k.running ≡ None → GoodMachine (dispatch (front k.queues) k r).kernel (dispatch (front k.queues) k r).runner
+dispatch_good k r h out = dispatch_moved k r (none_ends k r h out) h (front k.queues) refl
 
 -- A unit.
 
-goes_on_good : (k : KernelState) (r : RunnerState) (run : Running) (p : Processor) → GoodMachine k r → k.running ≡ Some run → AreAlike k.processor p → r.unit + 1 < length (bank r run.domain) → GoodMachine (with_processor k p) (entered r (r.unit + 1))
-goes_on_good k r run p h i alike behind =
+goes_on_good : (k n : KernelState) (r : RunnerState) (run : Running) → GoodMachine k r → k.running ≡ Some run → AreAlike k.processor n.processor → n ≡ with_both k n.processor n.queues → GoodQueues k.modules n.queues → r.unit + 1 < length (bank r run.domain) → GoodMachine n (entered r (r.unit + 1))
+goes_on_good k n r run h i alike alone queues behind =
     let good = running_good k r run h i in
-    kept_good k (with_processor k p) r (entered r (r.unit + 1)) refl refl refl (alike_good k.processor p alike h.processor)
-    (subst (GoodHandler (with_processor k p) (entered r (r.unit + 1))) (sym i) (running_kept k (with_processor k p) r (entered r (r.unit + 1)) run alike.sp refl behind good.0, good.1)) h
+    let unit = running_kept k (with_both k n.processor n.queues) r (entered r (r.unit + 1)) run alike.sp refl behind good.0 in
+    subst (λ (x : KernelState). GoodMachine x (entered r (r.unit + 1))) (sym alone) (record {
+      processor = alike_good k.processor n.processor alike h.processor;
+      banks = h.banks;
+      modules = modules_kept r (entered r (r.unit + 1)) refl k.modules h.modules;
+      distinct = h.distinct;
+      blocks = h.blocks;
+      owners = h.owners;
+      queues = queues;
+      handler =
+          subst (GoodHandler (with_both k n.processor n.queues) (entered r (r.unit + 1))) (sym i) (
+            unit,
+            good.1,
+            ending_kept k (with_both k n.processor n.queues) run k.ending refl good.2,
+          );
+    })
 
 abbrev GoodActed : Acted → Type 0
 GoodActed got = GoodMachine got.kernel got.runner
 
 store_acted : (b : Bool) (i : Instr) (run : Running) (k : KernelState) (r : RunnerState) → GoodMachine k r → k.running ≡ Some run → r.unit + 1 < length (bank r run.domain) → GoodActed (act_store b i k r)
-store_acted true i run k r h e behind = goes_on_good k r run (store_effect i k.processor) h e (store_alike i k.processor) behind
+store_acted true i run k r h e behind = goes_on_good k (with_processor k (store_effect i k.processor)) r run h e (store_alike i k.processor) refl h.queues behind
 store_acted false i run k r h e behind = h
 
 return_acted : (b : Bool) (k : KernelState) (r : RunnerState) → GoodMachine k r → GoodActed (act_return b k r)
@@ -232,17 +443,36 @@ with_pair_alike p d w = record { sp = refl; registers = simp length-set refl; me
 same_alike : (p : Processor) → AreAlike p p
 same_alike p = record { sp = refl; registers = refl; memory = refl }
 
-call_acted : (b : Bool) (run : Running) (k : KernelState) (r : RunnerState) → GoodMachine k r → k.running ≡ Some run → r.unit + 1 < length (bank r run.domain) → GoodActed (act_call b run k r)
-call_acted true run k r h e behind = goes_on_good k r run (with_pair k.processor 24 0) h e (with_pair_alike k.processor 24 0) behind
-call_acted false run k r h e behind = goes_on_good k r run k.processor h e (same_alike k.processor) behind
+-- A kernel call.
+module _ (k : KernelState) (r : RunnerState) (run : Running) (h : GoodMachine k r) (e : k.running ≡ Some run) (behind : r.unit + 1 < length (bank r run.domain)) where
+  answer_acted : (queues : Lists Message) (answer : ℕ) → GoodQueues k.modules queues → GoodMachine (answered (record k { queues = queues }) answer) (entered r (r.unit + 1))
+  answer_acted queues answer good =
+      goes_on_good k (answered (record k { queues = queues }) answer) r run h e (with_pair_alike k.processor 24 answer) refl good behind
+
+  where_acted : (b : Bool) (m : Message) → IsKnown k.modules m → nat_lt (length (list_of m.high k.queues)) queue_limit ≡ b → GoodMachine (post_where b m k) (entered r (r.unit + 1))
+  where_acted true m known room = answer_acted (appended m.high m k.queues) 0 (queues_posted k.modules m.high m k.queues known room h.queues)
+  where_acted false m known room = answer_acted k.queues 1 h.queues
+
+  -- a post's message is known: its receiver is loaded, and so is its sender, which runs
+  to_acted : (b : Bool) → is_loaded k.modules (message_of k run).to ≡ b → GoodMachine (post_to b (message_of k run) k) (entered r (r.unit + 1))
+  to_acted true there =
+      where_acted (nat_lt (length (list_of (message_of k run).high k.queues)) queue_limit) (message_of k run)
+      (record { receiver = there; sender = inr (id_at_loaded k.modules run.domain (running_good k r run h e).0.loaded) }) refl
+  to_acted false there = answer_acted k.queues 2 h.queues
+
+  call_acted : (o : Option Service) → GoodActed (act_call o run k r)
+  call_acted (Some PostShort) = to_acted (is_loaded k.modules (message_of k run).to) refl
+  call_acted (Some Say) = answer_acted k.queues 0 h.queues
+  call_acted (Some MyId) = answer_acted k.queues (id_at k.modules run.domain) h.queues
+  call_acted None = goes_on_good k k r run h e (same_alike k.processor) refl h.queues behind
 
 at_acted : (o : Option Unit) (run : Running) (k : KernelState) (r : RunnerState) → GoodMachine k r → k.running ≡ Some run → next_unit r run ≡ o → GoodActed (act_at o run k r)
 at_acted None run k r h e next = h
 at_acted (Some (Plain i)) run k r h e next =
-    goes_on_good k r run (plain_effect i k.processor) h e (plain_alike i k.processor) (unit_behind k r run (Plain i) h e next refl)
+    goes_on_good k (with_processor k (plain_effect i k.processor)) r run h e (plain_alike i k.processor) refl h.queues (unit_behind k r run (Plain i) h e next refl)
 at_acted (Some (Store i)) run k r h e next =
     store_acted (may_store k run (store_address k.processor)) i run k r h e (unit_behind k r run (Store i) h e next refl)
-at_acted (Some (KernelCall n)) run k r h e next = call_acted (n == say_call) run k r h e (unit_behind k r run (KernelCall n) h e next refl)
+at_acted (Some (KernelCall n)) run k r h e next = call_acted k r run h e (unit_behind k r run (KernelCall n) h e next refl) (service_of n)
 at_acted (Some Return) run k r h e next = return_acted (k.processor.sp == run.base) k r h
 
 running_acted : (o : Option Running) (k : KernelState) (r : RunnerState) → GoodMachine k r → k.running ≡ o → GoodActed (act_running o k r)
@@ -257,7 +487,12 @@ step_good k r got step h =
     subst (λ (s : RunnerState). GoodMachine got.kernel s) (sym step.runner)
     (same_kernel_good (unit_free k r) (act k r).kernel got.kernel (act k r).runner step.kernel (act_good k r h))
 
-pub settled_good : (e : UnitEnd) (run : Running) (k : KernelState) (r : RunnerState) (lines : List TraceLine) → GoodMachine k r → GoodMachine (settled e run k r lines).kernel (settled e run k r lines).runner
-settled_good On run k r lines h = h
-settled_good Over run k r lines h = ended_good k r h
-settled_good (Fault note) run k r lines h = purged_good k r run.domain h
+pub faulted_good : (note : FaultNote) (run : Running) (k : KernelState) (r : RunnerState) (lines : List TraceLine) → GoodMachine k r → k.running ≡ Some run → GoodMachine (faulted note run k r lines).kernel (faulted note run k r lines).runner
+faulted_good note run k r lines h i =
+    closed_good k.ending (purged (handler_ended k) (id_at k.modules run.domain) run.domain) (emptied r run.domain) _ refl
+    (running_purged k r run.domain h (running_good k r run h i).0.loaded)
+
+pub settled_good : (e : UnitEnd) (run : Running) (k : KernelState) (r : RunnerState) (lines : List TraceLine) → GoodMachine k r → k.running ≡ Some run → GoodMachine (settled e run k r lines).kernel (settled e run k r lines).runner
+settled_good On run k r lines h i = h
+settled_good Over run k r lines h i = closed_good k.ending k r _ refl (ended_good k r h)
+settled_good (Fault note) run k r lines h i = faulted_good note run k r lines h i

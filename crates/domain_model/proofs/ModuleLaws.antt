@@ -1,14 +1,15 @@
 -- The list of loaded modules: which domains and ids it has, and that no two modules share one.
-use Rattle.std.proofs.Common.{◌≡◌, ◌≢◌, ℕ, ◌⊎◌, inl, inr, ◌==◌, List, [], ◌∷◌, ◌++◌, filter, not, Bool, true, false, refl, sym, ap, ◌∙◌, Option, Some}
+use Rattle.std.proofs.Common.{◌≡◌, ◌≢◌, ℕ, ◌⊎◌, inl, inr, ◌==◌, List, [], ◌∷◌, ◌++◌, filter, not, Bool, true, false, refl, sym, ap, subst, ◌∙◌, Option, Some, None}
 use Rattle.std.specs.List.{AllByRecursion, Contains}
 use Rattle.std.specs.Option.{option_map_or}
 use Rattle.std.proofs.lemmas.Bool.{cases_Bool, cond-true, cond-false, cond_both, eqb-true, eqb-false, eq-eqb, ne_eqb, or_parts, not-true, not_from_false}
+use Rattle.std.proofs.lemmas.Option.{none-some, same_Some}
 use Rattle.std.proofs.lemmas.Map.Views.{any-filter_same}
 use Rattle.domain_model.specs.declared.module.ModuleRow.{ModuleRow}
-use Rattle.domain_model.specs.Act.{module_at, id_at}
-use Rattle.domain_model.specs.Turn.{in_use, is_loaded, without_domain}
+use Rattle.domain_model.specs.Act.{module_at, id_at, is_loaded}
+use Rattle.domain_model.specs.Turn.{in_use, module_named, without_domain}
 use Rattle.domain_model.specs.Good.{IsApart, AreDistinct}
-use Rattle.domain_model.proofs.Kept.{each_filter, each_push, each_contained, contained_nowhere, contained_first, contained_later, contained_cases, contained_filter, any_old, any_new}
+use Rattle.domain_model.proofs.Kept.{each_filter, each_push, each_contained, contained_nowhere, contained_first, contained_later, contained_cases, contained_filter, filter_contained, any_old, any_new, any_contained}
 
 -- the module behind a domain in use
 pub record Found (modules : List ModuleRow) (domain : ℕ) : Type 0 where
@@ -114,3 +115,85 @@ same_module (m ∷ ms) a b d ca cb share =
             | inr inb ↦ same_module ms a b d.1 ina inb share
           ]
     ]
+
+-- The module with an id.
+
+-- what is found by an id has it, and is loaded
+pub record Named (modules : List ModuleRow) (id : ℕ) (row : ModuleRow) : Type 0 where
+  pub contained : Contains modules row
+  pub id_of : row.id ≡ id
+
+pub named : (modules : List ModuleRow) (id : ℕ) (row : ModuleRow) → module_named modules id ≡ Some row → Named modules id row
+named [] id row e = absurd (none-some row e)
+named (m ∷ ms) id row e =
+    elim (cases_Bool (m.id == id)) [
+      | inl here ↦
+          let same : m ≡ row = same_Some m row (sym (cond-true (m.id == id) (Some m) (module_named ms id) here) ∙ e) in
+          subst (Named (m ∷ ms) id) same (record { contained = contained_first ms m; id_of = eqb-true m.id id here })
+      | inr other ↦
+          let rest = named ms id row (sym (cond-false (m.id == id) (Some m) (module_named ms id) other) ∙ e) in
+          record { contained = contained_later m ms row rest.contained; id_of = rest.id_of }
+    ]
+
+-- each loaded id is found
+pub loaded_named : (modules : List ModuleRow) (id : ℕ) → is_loaded modules id ≡ true → (row : ModuleRow) × (module_named modules id ≡ Some row)
+loaded_named [] id e = absurd (cc)
+loaded_named (m ∷ ms) id e =
+    elim (cases_Bool (m.id == id)) [
+      | inl here ↦ (m, cond-true (m.id == id) (Some m) (module_named ms id) here)
+      | inr other ↦
+          let rest = loaded_named ms id (rw other at e) in
+          (rest.0, cond-false (m.id == id) (Some m) (module_named ms id) other ∙ rest.1)
+    ]
+
+-- a module that is there is loaded, by its id and its domain
+pub contained_loaded : (modules : List ModuleRow) (row : ModuleRow) → Contains modules row → is_loaded modules row.id ≡ true
+contained_loaded modules row c = any_contained (λ (m : ModuleRow). m.id == row.id) modules row c (eq-eqb row.id row.id refl)
+
+pub contained_in_use : (modules : List ModuleRow) (row : ModuleRow) → Contains modules row → in_use modules row.domain ≡ true
+contained_in_use modules row c = any_contained (λ (m : ModuleRow). m.domain == row.domain) modules row c (eq-eqb row.domain row.domain refl)
+
+-- the running domain's module has a loaded id
+pub id_at_loaded : (modules : List ModuleRow) (domain : ℕ) → in_use modules domain ≡ true → is_loaded modules (id_at modules domain) ≡ true
+id_at_loaded modules domain used =
+    let f = found modules domain used in
+    subst (λ (id : ℕ). is_loaded modules id ≡ true) (sym (found_id modules domain f)) (contained_loaded modules f.row f.contained)
+
+-- a module's domain has its id
+pub id_at_row : (modules : List ModuleRow) (row : ModuleRow) → AreDistinct modules → Contains modules row → id_at modules row.domain ≡ row.id
+id_at_row modules row d c =
+    let f = found modules row.domain (contained_in_use modules row c) in
+    found_id modules row.domain f ∙ ap (λ (m : ModuleRow). m.id) (same_module modules f.row row d f.contained c (inr f.domain_of))
+
+-- the module of that id in a loaded domain is the domain's
+pub row_of_domain : (modules : List ModuleRow) (domain : ℕ) (m : ModuleRow) → AreDistinct modules → in_use modules domain ≡ true → Contains modules m → id_at modules domain ≡ m.id → m.domain ≡ domain
+row_of_domain modules domain m d used c e =
+    let f = found modules domain used in
+    let same = same_module modules m f.row d c f.contained (inl (sym e ∙ found_id modules domain f)) in
+    ap (λ (x : ModuleRow). x.domain) same ∙ f.domain_of
+
+-- loaded ids stay loaded where a module comes in
+pub is_loaded_old : (modules : List ModuleRow) (row : ModuleRow) (id : ℕ) → is_loaded modules id ≡ true → is_loaded (modules ++ row ∷ []) id ≡ true
+is_loaded_old modules row id h = any_old (λ (m : ModuleRow). m.id == id) modules row h
+
+-- another id stays loaded where a module goes out
+pub is_loaded_without : (modules : List ModuleRow) (row : ModuleRow) (id : ℕ) → AreDistinct modules → Contains modules row → id ≢ row.id → is_loaded modules id ≡ true → is_loaded (without_domain row.domain modules) id ≡ true
+is_loaded_without modules row id d c ne h =
+    let found = loaded_named modules id h in
+    let m = named modules id found.0 found.1 in
+    let apart : found.0.domain ≢ row.domain
+    = λ e. ne (sym m.id_of ∙ ap (λ (x : ModuleRow). x.id) (same_module modules found.0 row d m.contained c (inr e))) in
+    any_contained (λ (n : ModuleRow). n.id == id) (without_domain row.domain modules) found.0
+    (filter_contained (λ (n : ModuleRow). not (n.domain == row.domain)) modules found.0 m.contained (not_from_false (found.0.domain == row.domain) (ne_eqb found.0.domain row.domain apart)))
+    (eq-eqb found.0.id id m.id_of)
+
+-- the id of a module that went out is found no more
+pub named_without : (modules : List ModuleRow) (row : ModuleRow) → AreDistinct modules → Contains modules row → module_named (without_domain row.domain modules) row.id ≡ None
+named_without modules row d c = none_named (module_named (without_domain row.domain modules) row.id) refl
+  where
+    none_named : (o : Option ModuleRow) → module_named (without_domain row.domain modules) row.id ≡ o → o ≡ None
+    none_named None e = refl
+    none_named (Some m) e =
+        let n = named (without_domain row.domain modules) row.id m e in
+        let kept = contained_without modules row.domain m n.contained in
+        absurd (kept.1 (ap (λ (x : ModuleRow). x.domain) (same_module modules m row d kept.0 c (inl n.id_of))))

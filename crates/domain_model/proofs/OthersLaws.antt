@@ -1,31 +1,33 @@
--- Where a module is unloaded, the other modules are as they were, with their blocks and the bytes in them.
-use Rattle.std.proofs.Common.{◌≡◌, ℕ, ◌+◌, ◌<◌, ◌≤◌, inl, inr, nat_le, List, [], ◌∷◌, false, refl, sym, ap, ◌∙◌, subst, arith, Some, slice_index}
+-- Where a module is unloaded, the other modules are as they were, with their messages, their blocks and the bytes
+-- in them.
+use Rattle.std.proofs.Common.{◌≡◌, ℕ, ◌+◌, ◌<◌, ◌≤◌, inl, inr, nat_le, List, [], ◌∷◌, true, false, refl, sym, ap, ◌∙◌, subst, arith, Some, slice_index}
 use Rattle.std.specs.List.{Contains}
 use Rattle.std.proofs.lemmas.Bool.{and_right, lt-leb, cases_eq}
+use Rattle.mote_base.specs.Messages.{Lists, front}
 use Rattle.mote_layout.specs.Memory.{ram_start, kernel_bytes_start, kernel_bytes_end}
 use Rattle.mote_layout.specs.Blocks.{without_owner}
 use Rattle.domain_model.specs.declared.module.ModuleRow.{ModuleRow}
 use Rattle.domain_model.specs.declared.event.Choice.{Choice}
-use Rattle.domain_model.specs.declared.event.Choice.TheVariants.{Stays, Comes, Jumps, Idles, Budgets, Watches, Acts}
-use Rattle.domain_model.specs.declared.fault.FaultNote.{FaultNote}
+use Rattle.domain_model.specs.declared.event.Choice.TheVariants.{Stays, Comes, Dispatches, Jumps, Idles, Budgets, Watches, Acts}
 use Rattle.domain_model.specs.declared.fault.UnitEnd.{UnitEnd}
 use Rattle.domain_model.specs.declared.fault.UnitEnd.TheVariants.{On, Over, Fault}
 use Rattle.domain_model.specs.declared.handler.Running.{Running}
 use Rattle.domain_model.specs.declared.line.TraceLine.{TraceLine}
 use Rattle.domain_model.specs.declared.line.TraceLine.TheVariants as line
-use Rattle.domain_model.specs.State.{KernelState, RunnerState, State}
-use Rattle.domain_model.specs.Act.{Acted, id_at}
-use Rattle.domain_model.specs.Free.{UnitStep, is_kernel_byte}
-use Rattle.domain_model.specs.Turn.{settled, at_clock, without_domain, choice, made, May, Leaves, Turn}
+use Rattle.domain_model.specs.State.{Message, KernelState, RunnerState, State}
+use Rattle.domain_model.specs.Act.{Acted, act}
+use Rattle.domain_model.specs.Free.{UnitStep, with_memory, ends_handler, is_kernel_byte}
+use Rattle.domain_model.specs.Turn.{settled, watchdog, at_clock, without_domain, unnamed, choice, made, May, Leaves, Turn}
 use Rattle.domain_model.specs.Good.{GoodMachine, Good}
 use Rattle.domain_model.specs.Laws.{MayChangeAtFault, KeepsTheRest, UnloadsAlone}
 use Rattle.domain_model.specs.Facts.{Facts}
 use Rattle.domain_model.proofs.ChoiceLaws.{choice_facts}
 use Rattle.domain_model.proofs.BlockLaws.{owned_in_heap}
-use Rattle.domain_model.proofs.ActLaws.{running_good}
-use Rattle.domain_model.proofs.TurnLaws.{step_processor_alone}
-use Rattle.domain_model.proofs.ConfinedLaws.{fault_bytes}
-use Rattle.domain_model.proofs.UnloadLaws.{quiet_by, came_quiet, step_quiet, done_quiet, its_domain, unloaded_id}
+use Rattle.domain_model.proofs.CloseLaws.{gone}
+use Rattle.domain_model.proofs.MachineLaws.{step_good}
+use Rattle.domain_model.proofs.TurnLaws.{step_changes_alone}
+use Rattle.domain_model.proofs.ConfinedLaws.{end_bytes, end_queues}
+use Rattle.domain_model.proofs.UnloadLaws.{IsQuiet, quiet_by, came_quiet, dispatch_quiet, step_quiet, faulted_unloads, settled_unloads}
 
 -- a byte of a block is no byte of the kernel's, and no fault changes it
 heap_byte : (address : ℕ) → (0x0200 ≤ address) × (address < 0x0E00) → is_kernel_byte address ≡ false
@@ -35,51 +37,63 @@ no_fault_byte : (k : KernelState) (address : ℕ) → (0x0200 ≤ address) × (a
 no_fault_byte k address heap (inl stack) = omega (arith, heap.1, stack.0)
 no_fault_byte k address heap (inr byte) = omega (arith, heap.0, byte.1)
 
--- a fault keeps the rest
-fault_keeps : (k : KernelState) (r : RunnerState) (got : Acted) (run : Running) (note : FaultNote) (now : ℕ) → GoodMachine k r → UnitStep k r got → got.ending ≡ Fault note → KeepsTheRest k run.domain (at_clock (settled (Fault note) run got.kernel got.runner got.lines).kernel now)
-fault_keeps k r got run note now h step e =
-    let alone = step_processor_alone k r got step in
+-- a handler's end keeps the rest
+end_keeps : (k : KernelState) (r : RunnerState) (got : Acted) (id domain now : ℕ) → GoodMachine k r → UnitStep k r got → ends_handler (act k r).ending ≡ true → KeepsTheRest k id domain (at_clock (gone got.kernel id domain) now)
+end_keeps k r got id domain now h step e =
+    let alone = step_changes_alone k r got step in
     record {
-      modules = ap (λ (n : KernelState). without_domain run.domain n.modules) alone;
-      blocks = ap (λ (n : KernelState). without_owner run.domain n.blocks) alone;
+      modules = ap (λ (n : KernelState). without_domain domain n.modules) alone;
+      queues = ap (λ (q : Lists Message). unnamed id q) (end_queues k r got step e);
+      blocks = ap (λ (n : KernelState). without_owner domain n.blocks) alone;
       bytes = λ other i ne owned.
           elim (cases_eq (slice_index got.kernel.processor.memory i) (slice_index k.processor.memory i)) [
             | inl same ↦ same
             | inr differs ↦
                 absurd (no_fault_byte k (i + ram_start) (owned_in_heap k.blocks other (i + ram_start) h.blocks owned)
-                (fault_bytes k r got note step (sym step.ending ∙ e) i differs))
+                (end_bytes k r got step e i differs))
           ];
     }
 
-settled_keeps : (e : UnitEnd) (k : KernelState) (r : RunnerState) (got : Acted) (run : Running) (now : ℕ) → GoodMachine k r → k.running ≡ Some run → UnitStep k r got → got.ending ≡ e → (time : ℕ) (m : ModuleRow) → Contains (settled e run got.kernel got.runner got.lines).lines (line.Unload time m.id) → Contains k.modules m → KeepsTheRest k m.domain (at_clock (settled e run got.kernel got.runner got.lines).kernel now)
-settled_keeps On k r got run now h i step e time m c cm = absurd (step_quiet k r got step time m.id c)
-settled_keeps Over k r got run now h i step e time m c cm = absurd (done_quiet run got.kernel got.runner got.lines (step_quiet k r got step) time m.id c)
-settled_keeps (Fault note) k r got run now h i step e time m c cm =
-    let alone = step_processor_alone k r got step in
-    let id = unloaded_id got.lines _ got.kernel.clock m.id time (id_at got.kernel.modules run.domain) refl (step_quiet k r got step) c in
-    let old : id_at k.modules run.domain ≡ m.id = ap (λ (n : KernelState). id_at n.modules run.domain) (sym alone) ∙ id in
-    let domain = its_domain k r run.domain m h (running_good k r run h i).0.loaded cm old in
-    subst (λ (d : ℕ). KeepsTheRest k d (at_clock (settled (Fault note) run got.kernel got.runner got.lines).kernel now)) (sym domain)
-    (fault_keeps k r got run note now h step e)
+-- a unit that goes on unloads none
+ends_where : (e : UnitEnd) (run : Running) (k : KernelState) (r : RunnerState) (lines : List TraceLine) → IsQuiet lines → (time id : ℕ) → Contains (settled e run k r lines).lines (line.Unload time id) → ends_handler e ≡ true
+ends_where On run k r lines quiet time id c = absurd (quiet time id c)
+ends_where Over run k r lines quiet time id c = refl
+ends_where (Fault note) run k r lines quiet time id c = refl
 
-turn_keeps : (c : Choice) (s t : State) (got : Acted) → Good s → Facts c s → May c s got → Leaves c (made c s got).state t → (time : ℕ) (m : ModuleRow) → Contains (made c s got).lines (line.Unload time m.id) → Contains s.kernel.modules m → KeepsTheRest s.kernel m.domain t.kernel
+settled_keeps : (k : KernelState) (r : RunnerState) (got : Acted) (run : Running) (now : ℕ) → GoodMachine k r → k.running ≡ Some run → UnitStep k r got → (time : ℕ) (m : ModuleRow) → Contains (settled got.ending run got.kernel got.runner got.lines).lines (line.Unload time m.id) → Contains k.modules m → KeepsTheRest k m.id m.domain (at_clock (settled got.ending run got.kernel got.runner got.lines).kernel now)
+settled_keeps k r got run now h i step time m c cm =
+    let alone = step_changes_alone k r got step in
+    let quiet = step_quiet k r got step in
+    let running : got.kernel.running ≡ Some run = ap (λ (n : KernelState). n.running) alone ∙ i in
+    let there : Contains got.kernel.modules m = subst (λ (n : KernelState). Contains n.modules m) (sym alone) cm in
+    let ends = ends_where got.ending run got.kernel got.runner got.lines quiet time m.id c in
+    let u = settled_unloads got.kernel got.runner run (step_good k r got step h) running got.ending got.lines quiet time m c there in
+    subst (λ (x : KernelState). KeepsTheRest k m.id m.domain (at_clock x now)) (sym u.kernel)
+    (end_keeps k r got m.id m.domain now h step (sym (ap ends_handler step.ending) ∙ ends))
+
+turn_keeps : (c : Choice) (s t : State) (got : Acted) → Good s → Facts c s → May c s got → Leaves c (made c s got).state t → (time : ℕ) (m : ModuleRow) → Contains (made c s got).lines (line.Unload time m.id) → Contains s.kernel.modules m → KeepsTheRest s.kernel m.id m.domain t.kernel
 turn_keeps Stays s t got g facts may to time m c cm = absurd (quiet_by [] refl time m.id c)
 turn_keeps (Comes e) s t got g facts may to time m c cm = absurd (came_quiet s.images e.what s.kernel s.runner time m.id c)
+turn_keeps Dispatches s t got g facts may to time m c cm = absurd (dispatch_quiet (front s.kernel.queues) s.kernel s.runner time m.id c)
 turn_keeps (Jumps now) s t got g facts may to time m c cm = absurd (quiet_by [] refl time m.id c)
 turn_keeps Idles s t got g facts may to time m c cm = absurd (quiet_by (line.EndIdle s.kernel.clock ∷ []) refl time m.id c)
 turn_keeps Budgets s t got g facts may to time m c cm = absurd (quiet_by (line.EndBudget s.kernel.clock ∷ []) refl time m.id c)
 turn_keeps (Watches run) s t got g facts may to time m c cm =
-    let id = unloaded_id [] _ s.kernel.clock m.id time (id_at s.kernel.modules run.domain) refl (quiet_by [] refl) c in
-    let domain = its_domain s.kernel s.runner run.domain m g.machine (running_good s.kernel s.runner run g.machine facts.running).0.loaded cm id in
-    subst (λ (d : ℕ). KeepsTheRest s.kernel d t.kernel) (sym domain) (record {
-      modules = ap (λ (n : KernelState). n.modules) to.kernel.rest;
-      blocks = ap (λ (n : KernelState). n.blocks) to.kernel.rest;
+    let u = faulted_unloads s.kernel s.runner run g.machine facts.running (watchdog s) [] (quiet_by [] refl) time m c cm in
+    let same : t.kernel ≡ with_memory (gone s.kernel m.id m.domain) t.kernel.processor.memory
+    = to.kernel.rest ∙ ap (λ (n : KernelState). with_memory n t.kernel.processor.memory) u.kernel in
+    let bytes : (i : ℕ) → is_kernel_byte (i + ram_start) ≡ false → slice_index t.kernel.processor.memory i ≡ slice_index s.kernel.processor.memory i
+    = λ i free. to.kernel.memory.same i free ∙ ap (λ (n : KernelState). slice_index n.processor.memory i) u.kernel in
+    record {
+      modules = ap (λ (n : KernelState). n.modules) same;
+      queues = ap (λ (n : KernelState). n.queues) same;
+      blocks = ap (λ (n : KernelState). n.blocks) same;
       bytes = λ other i ne owned.
-          to.kernel.memory.same i (heap_byte (i + ram_start) (owned_in_heap s.kernel.blocks other (i + ram_start) g.machine.blocks owned));
-    })
+          bytes i (heap_byte (i + ram_start) (owned_in_heap s.kernel.blocks other (i + ram_start) g.machine.blocks owned));
+    }
 turn_keeps (Acts run) s t got g facts may to time m c cm =
-    subst (λ (x : State). KeepsTheRest s.kernel m.domain x.kernel) (sym to)
-    (settled_keeps got.ending s.kernel s.runner got run _ g.machine facts.running may refl time m c cm)
+    subst (λ (x : State). KeepsTheRest s.kernel m.id m.domain x.kernel) (sym to)
+    (settled_keeps s.kernel s.runner got run _ g.machine facts.running may time m c cm)
 
 pub turn_unloads_alone : (s t : State) (lines : List TraceLine) → Good s → Turn s t lines → UnloadsAlone s t lines
 turn_unloads_alone s t lines g turn time m c cm =

@@ -19,7 +19,8 @@ begins_good images events units handler good times most least highest = record {
     distinct = tt;
     blocks = tt;
     owners = tt;
-    handler = refl;
+    queues = record { within = (omega arith, omega arith); high = tt; low = tt };
+    handler = (refl, refl);
   };
   images = good;
   times = times;

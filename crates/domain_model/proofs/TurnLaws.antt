@@ -1,25 +1,28 @@
 -- Every turn keeps a state good, and from each good state that is live there is a turn.
-use Rattle.std.proofs.Common.{◌≡◌, ℕ, ◌^◌, ◌<◌, List, length, Bool, true, false, refl, sym, ap, ◌∙◌, subst, arith, Option, Some, None, slice_get}
+use Rattle.std.proofs.Common.{◌≡◌, ℕ, ◌^◌, ◌<◌, List, [], length, Bool, true, false, refl, sym, ap, ◌∙◌, subst, arith, Option, Some, None, slice_get}
+use Rattle.mote_base.specs.Messages.{front}
+use Rattle.domain_model.specs.declared.module.ModuleRow.{ModuleRow}
 use Rattle.domain_model.specs.declared.event.Event.{Event}
 use Rattle.domain_model.specs.declared.event.What.{What}
 use Rattle.domain_model.specs.declared.event.What.TheVariants as what
 use Rattle.domain_model.specs.declared.event.Choice.{Choice}
-use Rattle.domain_model.specs.declared.event.Choice.TheVariants.{Stays, Comes, Jumps, Idles, Budgets, Watches, Acts}
+use Rattle.domain_model.specs.declared.event.Choice.TheVariants.{Stays, Comes, Dispatches, Jumps, Idles, Budgets, Watches, Acts}
 use Rattle.domain_model.specs.declared.fault.UnitEnd.{UnitEnd}
-use Rattle.domain_model.specs.declared.fault.UnitEnd.TheVariants.{On, Over, Fault}
+use Rattle.domain_model.specs.declared.fault.UnitEnd.TheVariants.{Fault}
 use Rattle.domain_model.specs.declared.handler.Running.{Running}
 use Rattle.domain_model.specs.declared.line.TraceLine.{TraceLine}
 use Rattle.domain_model.specs.Image.{Module}
-use Rattle.domain_model.specs.State.{KernelState, RunnerState, State, with_processor}
-use Rattle.domain_model.specs.Act.{Acted, act}
+use Rattle.domain_model.specs.State.{Message, KernelState, RunnerState, State}
+use Rattle.domain_model.specs.Act.{Acted, act, is_loaded}
 use Rattle.domain_model.specs.Free.{SameBut, SameKernel, SameState, UnitStep, with_memory, is_kernel_byte, unit_free}
-use Rattle.domain_model.specs.Turn.{Given, given, free_domain, is_loaded, came, load_image, load_new, load_in, load_given, settled, choice, made, May, Leaves, Turn}
+use Rattle.domain_model.specs.Turn.{Given, given, free_domain, module_named, came, unload_module, deliver, dispatch, watchdog, load_image, load_new, load_in, load_given, settled, choice, made, May, Leaves, Turn}
 use Rattle.domain_model.specs.Good.{Good}
 use Rattle.domain_model.specs.Facts.{Facts}
 use Rattle.domain_model.proofs.Kept.{each_drop, each_at}
 use Rattle.domain_model.proofs.ChoiceLaws.{choice_facts}
-use Rattle.domain_model.proofs.ActLaws.{act_processor_alone}
-use Rattle.domain_model.proofs.MachineLaws.{clock_good, memory_good, purged_good, came_good, step_good, settled_good}
+use Rattle.domain_model.proofs.ActLaws.{with_both, act_changes_alone}
+use Rattle.domain_model.proofs.CloseLaws.{settled_rests}
+use Rattle.domain_model.proofs.MachineLaws.{clock_good, memory_good, faulted_good, came_good, dispatch_good, step_good, settled_good}
 
 -- The clock.
 
@@ -40,30 +43,55 @@ image_clock None image k r = refl
 image_clock (Some None) image k r = refl
 image_clock (Some (Some m)) image k r = new_clock (is_loaded k.modules m.id) m image k r
 
+unload_clock : (o : Option ModuleRow) (id : ℕ) (k : KernelState) (r : RunnerState) → (unload_module o id k r).kernel.clock ≡ k.clock
+unload_clock None id k r = refl
+unload_clock (Some row) id k r = refl
+
 pub came_clock : (images : List (Option Module)) (w : What) (k : KernelState) (r : RunnerState) → (came images w k r).kernel.clock ≡ k.clock
 came_clock images (what.Load n) k r = image_clock (slice_get images n) n k r
+came_clock images (what.Unload id) k r = unload_clock (module_named k.modules id) id k r
+
+deliver_clock : (o : Option ModuleRow) (m : Message) (k : KernelState) (r : RunnerState) → (deliver o m k r).kernel.clock ≡ k.clock
+deliver_clock None m k r = refl
+deliver_clock (Some row) m k r = refl
+
+pub dispatch_clock : (o : Option Message) (k : KernelState) (r : RunnerState) → (dispatch o k r).kernel.clock ≡ k.clock
+dispatch_clock None k r = refl
+dispatch_clock (Some m) k r = deliver_clock (module_named k.modules m.to) m k r
 
 pub settled_clock : (e : UnitEnd) (run : Running) (k : KernelState) (r : RunnerState) (lines : List TraceLine) → (settled e run k r lines).kernel.clock ≡ k.clock
-settled_clock On run k r lines = refl
-settled_clock Over run k r lines = refl
-settled_clock (Fault note) run k r lines = refl
+settled_clock e run k r lines = (settled_rests e run k r lines).clock
 
--- a unit's step changes the processor alone
-pub step_processor_alone : (k : KernelState) (r : RunnerState) (got : Acted) → UnitStep k r got → got.kernel ≡ with_processor k got.kernel.processor
-step_processor_alone k r got step =
-    let e : with_memory (act k r).kernel got.kernel.processor.memory ≡ with_processor k (with_memory (act k r).kernel got.kernel.processor.memory).processor
-    = ap (λ (n : KernelState). with_memory n got.kernel.processor.memory) (act_processor_alone k r) in
-    subst (λ (n : KernelState). n ≡ with_processor k n.processor) (sym step.kernel.rest) e
+-- a unit's step changes the processor and the queues alone
+pub step_changes_alone : (k : KernelState) (r : RunnerState) (got : Acted) → UnitStep k r got → got.kernel ≡ with_both k got.kernel.processor got.kernel.queues
+step_changes_alone k r got step =
+    let e : with_memory (act k r).kernel got.kernel.processor.memory ≡ with_both k (with_memory (act k r).kernel got.kernel.processor.memory).processor (act k r).kernel.queues
+    = ap (λ (n : KernelState). with_memory n got.kernel.processor.memory) (act_changes_alone k r) in
+    subst (λ (n : KernelState). n ≡ with_both k n.processor n.queues) (sym step.kernel.rest) e
+
+-- and the queues as the unit itself does
+pub step_queues : (k : KernelState) (r : RunnerState) (got : Acted) → UnitStep k r got → got.kernel.queues ≡ (act k r).kernel.queues
+step_queues k r got step = ap (λ (n : KernelState). n.queues) step.kernel.rest
 
 -- What a turn makes of a good state, but for the free bytes.
 
 pub made_good : (c : Choice) (s : State) (got : Acted) → Good s → Facts c s → May c s got → Good (made c s got).state
 made_good Stays s got g facts may = g
 made_good (Comes e) s got g facts may = record {
-  machine = came_good s.images e.what s.kernel s.runner g.machine g.images;
+  machine = came_good s.images e.what s.kernel s.runner g.machine facts.outside g.images;
   images = g.images;
   times = each_drop (λ (x : Event). x.time < 2 ^ 32) s.events g.times;
   clock = rw (came_clock s.images e.what s.kernel s.runner) g.clock;
+  total = g.total;
+  units = g.units;
+  spent = omega arith;
+  handler = g.handler;
+}
+made_good Dispatches s got g facts may = record {
+  machine = dispatch_good s.kernel s.runner g.machine facts.outside;
+  images = g.images;
+  times = g.times;
+  clock = rw (dispatch_clock (front s.kernel.queues) s.kernel s.runner) g.clock;
   total = g.total;
   units = g.units;
   spent = omega arith;
@@ -102,22 +130,24 @@ made_good Budgets s got g facts may = record {
   handler = g.handler;
 }
 made_good (Watches run) s got g facts may = record {
-  machine = purged_good s.kernel s.runner run.domain g.machine;
+  machine = faulted_good (watchdog s) run s.kernel s.runner [] g.machine facts.running;
   images = g.images;
   times = g.times;
-  clock = g.clock;
+  clock = rw (settled_clock (Fault (watchdog s)) run s.kernel s.runner []) g.clock;
   total = g.total;
   units = g.units;
   spent = g.spent;
   handler = g.handler;
 }
 made_good (Acts run) s got g facts may =
+    let alone = step_changes_alone s.kernel s.runner got may in
     let clock : (settled got.ending run got.kernel got.runner got.lines).kernel.clock ≡ s.kernel.clock
-    = settled_clock got.ending run got.kernel got.runner got.lines ∙ ap (λ (k : KernelState). k.clock) (step_processor_alone s.kernel s.runner got may) in
+    = settled_clock got.ending run got.kernel got.runner got.lines ∙ ap (λ (k : KernelState). k.clock) alone in
+    let running : got.kernel.running ≡ Some run = ap (λ (k : KernelState). k.running) alone ∙ facts.running in
     record {
       machine =
           clock_good (settled got.ending run got.kernel got.runner got.lines).kernel (settled got.ending run got.kernel got.runner got.lines).runner _
-          (settled_good got.ending run got.kernel got.runner got.lines (step_good s.kernel s.runner got may g.machine));
+          (settled_good got.ending run got.kernel got.runner got.lines (step_good s.kernel s.runner got may g.machine) running);
       images = g.images;
       times = g.times;
       clock = omega (arith, clock, g.clock);
@@ -156,6 +186,7 @@ same_state_good free want t same g =
 pub leaves : (P : State → Type 0) → ((s : State) (memory : List ℕ) → length memory ≡ length s.kernel.processor.memory → P s → P (with_bytes s memory)) → (c : Choice) (want t : State) → Leaves c want t → P want → P t
 leaves P f Stays want t to p = subst P (sym to) p
 leaves P f (Comes e) want t to p = subst P (sym (same_state is_kernel_byte want t to)) (f want t.kernel.processor.memory to.kernel.memory.same_length p)
+leaves P f Dispatches want t to p = subst P (sym (same_state is_kernel_byte want t to)) (f want t.kernel.processor.memory to.kernel.memory.same_length p)
 leaves P f (Jumps now) want t to p = subst P (sym (same_state is_kernel_byte want t to)) (f want t.kernel.processor.memory to.kernel.memory.same_length p)
 leaves P f Idles want t to p = subst P (sym (same_state is_kernel_byte want t to)) (f want t.kernel.processor.memory to.kernel.memory.same_length p)
 leaves P f Budgets want t to p = subst P (sym (same_state is_kernel_byte want t to)) (f want t.kernel.processor.memory to.kernel.memory.same_length p)
@@ -181,6 +212,7 @@ step_itself k r = record { kernel = same_kernel (unit_free k r) (act k r).kernel
 pub may_itself : (c : Choice) (s : State) → May c s (act s.kernel s.runner)
 may_itself Stays s = tt
 may_itself (Comes e) s = tt
+may_itself Dispatches s = tt
 may_itself (Jumps now) s = tt
 may_itself Idles s = tt
 may_itself Budgets s = tt
@@ -193,6 +225,7 @@ same_state_itself s = record { kernel = same_kernel is_kernel_byte s.kernel; res
 pub leaves_itself : (c : Choice) (s : State) → Leaves c s s
 leaves_itself Stays s = refl
 leaves_itself (Comes e) s = same_state_itself s
+leaves_itself Dispatches s = same_state_itself s
 leaves_itself (Jumps now) s = same_state_itself s
 leaves_itself Idles s = same_state_itself s
 leaves_itself Budgets s = same_state_itself s

@@ -13,23 +13,25 @@ use Rattle.avr_isa.proofs.TableLaws.{decoded_is_encodable}
 use Rattle.mote_layout.specs.Memory.{bank_words}
 use Rattle.domain_model.specs.declared.unit.Unit.{Unit}
 use Rattle.domain_model.specs.declared.unit.Unit.TheVariants.{Plain, Store, KernelCall, Return}
-use Rattle.domain_model.specs.Units.{say_entry, say_call, unit_of, counted_unit, unit_read, next_word, unit_at, with_unit, followed, spelled, long_length, ends_in_return, accepted_units, units_of, IsBuilt, AreProper}
+use Rattle.domain_model.specs.Units.{unit_of, counted_unit, unit_read, next_word, unit_at, with_unit, followed, spelled, long_length, ends_in_return, accepted_units, units_of, IsBuilt, AreProper}
 use Rattle.domain_model.specs.Image.{Image, Module, image_of, module_with, module_in, prepared}
 use Rattle.domain_model.specs.Good.{GoodImage, IsGoodImage}
 use Rattle.domain_model.proofs.ImageLaws.{image_read}
 
 -- A unit that is decoded is built.
 
-call_built : (b : Bool) (u : Unit) → cond b (Some (KernelCall say_call)) None ≡ Some u → IsBuilt u
-call_built true u e = subst IsBuilt (same_Some (KernelCall say_call) u e) refl
-call_built false u e = absurd (none-some u e)
+call_built : (a b c : Bool) (u : Unit) → cond a (Some (KernelCall 3)) (cond b (Some (KernelCall 8)) (cond c (Some (KernelCall 11)) None)) ≡ Some u → IsBuilt u
+call_built true b c u e = subst IsBuilt (same_Some (KernelCall 3) u e) refl
+call_built false true c u e = subst IsBuilt (same_Some (KernelCall 8) u e) refl
+call_built false false true u e = subst IsBuilt (same_Some (KernelCall 11) u e) refl
+call_built false false false u e = absurd (none-some u e)
 
 unit_built : (i : Instr) (u : Unit) → IsEncodable i → unit_of i ≡ Some u → IsBuilt u
 unfolding IsEncodable
 unit_built (Ldi d k) u h e = subst IsBuilt (same_Some (Plain (Ldi d k)) u e) (h.0.1, h.1)
 unit_built (Mov d r) u h e = subst IsBuilt (same_Some (Plain (Mov d r)) u e) (h.0, h.1)
 unit_built (StX r) u h e = subst IsBuilt (same_Some (Store (StX r)) u e) h
-unit_built (Call k) u h e = call_built (k == say_entry) u e
+unit_built (Call k) u h e = call_built (k == 0xF103) (k == 0xF108) (k == 0xF10B) u e
 unit_built Ret u h e = subst IsBuilt (same_Some Return u e) tt
 unit_built _ u h e = absurd (none-some u e)
 

@@ -1,15 +1,16 @@
 -- Clean unload: where a turn unloads a module, nothing names it or its domain any more.
-use Rattle.std.proofs.Common.{◌≡◌, ℕ, ◌<◌, inl, inr, ◌==◌, not, List, [], ◌∷◌, ◌++◌, Bool, true, false, refl, sym, ap, ◌∙◌, subst, arith, Option, Some, None, slice_get}
+use Rattle.std.proofs.Common.{◌≡◌, ◌⊎◌, ℕ, ◌<◌, inl, inr, ◌==◌, not, List, [], ◌∷◌, ◌++◌, Bool, true, false, refl, sym, ap, ◌∙◌, subst, arith, Option, Some, None, slice_get}
 use Rattle.std.specs.List.{Contains, list_any}
-use Rattle.std.proofs.lemmas.Bool.{true≢false}
+use Rattle.std.proofs.lemmas.Bool.{true≢false, eqb-false, or_parts, not-true}
 use Rattle.std.proofs.lemmas.List.Elements.{Contains-append_cases}
+use Rattle.mote_base.specs.Messages.{Lists, in_order, front, names}
 use Rattle.mote_layout.specs.Memory.{kernel}
 use Rattle.mote_layout.specs.declared.segment.Segment.{Segment}
 use Rattle.domain_model.specs.declared.module.ModuleRow.{ModuleRow}
 use Rattle.domain_model.specs.declared.event.What.{What}
 use Rattle.domain_model.specs.declared.event.What.TheVariants as what
 use Rattle.domain_model.specs.declared.event.Choice.{Choice}
-use Rattle.domain_model.specs.declared.event.Choice.TheVariants.{Stays, Comes, Jumps, Idles, Budgets, Watches, Acts}
+use Rattle.domain_model.specs.declared.event.Choice.TheVariants.{Stays, Comes, Dispatches, Jumps, Idles, Budgets, Watches, Acts}
 use Rattle.domain_model.specs.declared.fault.FaultNote.{FaultNote}
 use Rattle.domain_model.specs.declared.fault.UnitEnd.{UnitEnd}
 use Rattle.domain_model.specs.declared.fault.UnitEnd.TheVariants.{On, Over, Fault}
@@ -17,28 +18,22 @@ use Rattle.domain_model.specs.declared.handler.Running.{Running}
 use Rattle.domain_model.specs.declared.line.TraceLine.{TraceLine}
 use Rattle.domain_model.specs.declared.line.TraceLine.TheVariants as line
 use Rattle.domain_model.specs.Image.{Module}
-use Rattle.domain_model.specs.State.{KernelState, RunnerState, State}
-use Rattle.domain_model.specs.Act.{Acted, id_at}
+use Rattle.domain_model.specs.State.{Message, KernelState, RunnerState, State}
+use Rattle.domain_model.specs.Act.{Acted, id_at, is_loaded}
 use Rattle.domain_model.specs.Free.{UnitStep, with_memory}
-use Rattle.domain_model.specs.Turn.{in_use, Given, given, free_domain, is_loaded, came, load_image, load_new, load_in, load_given, settled, faulted, watchdog, purged, handler_ended, choice, made, May, Turn}
+use Rattle.domain_model.specs.Turn.{in_use, module_named, without_named, Moved, unload_module, deliver, dispatch, Given, given, free_domain, came, load_image, load_new, load_in, load_given, settled, faulted, watchdog, choice, made, May, Turn}
 use Rattle.domain_model.specs.Good.{GoodMachine, GoodModule, Good}
-use Rattle.domain_model.specs.Laws.{Names, a_module, the_message, a_block, a_lost_payload, the_running, UnloadsCleanly}
+use Rattle.domain_model.specs.Laws.{Names, a_module, a_message, the_message, a_block, a_lost_payload, the_running, UnloadsCleanly}
 use Rattle.domain_model.specs.Facts.{Facts}
 use Rattle.domain_model.proofs.Kept.{each_contained, any_nowhere, contained_nowhere, contained_cases, contained_filter}
 use Rattle.domain_model.proofs.ChoiceLaws.{choice_facts}
-use Rattle.domain_model.proofs.ModuleLaws.{found, found_id, contained_without, other_domain, same_module}
+use Rattle.domain_model.proofs.ModuleLaws.{found, contained_without, other_domain, same_module, row_of_domain}
 use Rattle.domain_model.proofs.ActLaws.{running_good, act_unloads_nothing}
 use Rattle.domain_model.proofs.MachineLaws.{step_good}
-use Rattle.domain_model.proofs.TurnLaws.{leaves, step_processor_alone}
+use Rattle.domain_model.proofs.CloseLaws.{gone, faulted_is, over_is, over_ending_is}
+use Rattle.domain_model.proofs.TurnLaws.{leaves, step_changes_alone}
 
 -- What a purge leaves names nothing of the module.
-
--- the module of that id in a loaded domain is the domain's
-pub its_domain : (k : KernelState) (r : RunnerState) (domain : ℕ) (m : ModuleRow) → GoodMachine k r → in_use k.modules domain ≡ true → Contains k.modules m → id_at k.modules domain ≡ m.id → m.domain ≡ domain
-its_domain k r domain m h used c e =
-    let f = found k.modules domain used in
-    let same = same_module k.modules m f.row h.distinct c f.contained (inl (sym e ∙ found_id k.modules domain f)) in
-    ap (λ (x : ModuleRow). x.domain) same ∙ f.domain_of
 
 -- a loaded domain is no kernel
 used_below : (k : KernelState) (r : RunnerState) (domain : ℕ) → GoodMachine k r → in_use k.modules domain ≡ true → domain < kernel
@@ -47,10 +42,22 @@ used_below k r domain h used =
     let g = each_contained (GoodModule r) k.modules f.row h.modules f.contained in
     omega (arith, g.domain, f.domain_of)
 
-purged_names : (k : KernelState) (r : RunnerState) (m : ModuleRow) → GoodMachine k r → Contains k.modules m → ¬ Names (purged (handler_ended k) m.domain) m.id m.domain
+-- what names the id no longer waits
+no_message : (messages : List Message) (id : ℕ) (m : Message) → Contains (without_named id messages) m → (m.to ≡ id) ⊎ (m.from ≡ id) → ⊥
+no_message messages id m c named =
+    let kept = contained_filter (λ (x : Message). not (names id x)) messages m c in
+    let parts = or_parts (m.from == id) (m.to == id) (not-true (names id m) kept.1) in
+    elim named [ inl to ↦ eqb-false m.to id parts.1 to | inr from ↦ eqb-false m.from id parts.0 from ]
+
+purged_names : (k : KernelState) (r : RunnerState) (m : ModuleRow) → GoodMachine k r → Contains k.modules m → ¬ Names (gone k m.id m.domain) m.id m.domain
 purged_names k r m h c (a_module n cn share) =
     let kept = contained_without k.modules m.domain n cn in
     kept.1 (ap (λ (x : ModuleRow). x.domain) (same_module k.modules n m h.distinct kept.0 c share))
+purged_names k r m h c (a_message x cx same) =
+    elim (Contains-append_cases (without_named m.id k.queues.high) (without_named m.id k.queues.low) x cx) [
+      | inl high ↦ no_message k.queues.high m.id x high same
+      | inr low ↦ no_message k.queues.low m.id x low same
+    ]
 purged_names k r m h c (the_message n hand same) = absurd (cc)
 purged_names k r m h c (a_block b cb owner) =
     let kept = contained_filter (λ (s : Segment). not (s.owner == m.domain)) k.blocks b cb in
@@ -63,12 +70,13 @@ purged_names k r m h c (a_lost_payload b cb owner) =
 purged_names k r m h c (the_running run running same) = absurd (cc)
 
 -- what names something names it also in a kernel with the same lists
-names_alike : (k n : KernelState) (id domain : ℕ) → n.modules ≡ k.modules → n.hand ≡ k.hand → n.blocks ≡ k.blocks → n.running ≡ k.running → Names n id domain → Names k id domain
-names_alike k n id domain modules hand blocks running (a_module m c e) = a_module m (subst (λ (ms : List ModuleRow). Contains ms m) modules c) e
-names_alike k n id domain modules hand blocks running (the_message m e same) = the_message m (sym hand ∙ e) same
-names_alike k n id domain modules hand blocks running (a_block b c e) = a_block b (subst (λ (bs : List Segment). Contains bs b) blocks c) e
-names_alike k n id domain modules hand blocks running (a_lost_payload b c e) = a_lost_payload b (subst (λ (bs : List Segment). Contains bs b) blocks c) e
-names_alike k n id domain modules hand blocks running (the_running run e same) = the_running run (sym running ∙ e) same
+names_alike : (k n : KernelState) (id domain : ℕ) → n.modules ≡ k.modules → n.queues ≡ k.queues → n.hand ≡ k.hand → n.blocks ≡ k.blocks → n.running ≡ k.running → Names n id domain → Names k id domain
+names_alike k n id domain modules queues hand blocks running (a_module m c e) = a_module m (subst (λ (ms : List ModuleRow). Contains ms m) modules c) e
+names_alike k n id domain modules queues hand blocks running (a_message m c e) = a_message m (subst (λ (q : Lists Message). Contains (in_order q) m) queues c) e
+names_alike k n id domain modules queues hand blocks running (the_message m e same) = the_message m (sym hand ∙ e) same
+names_alike k n id domain modules queues hand blocks running (a_block b c e) = a_block b (subst (λ (bs : List Segment). Contains bs b) blocks c) e
+names_alike k n id domain modules queues hand blocks running (a_lost_payload b c e) = a_lost_payload b (subst (λ (bs : List Segment). Contains bs b) blocks c) e
+names_alike k n id domain modules queues hand blocks running (the_running run e same) = the_running run (sym running ∙ e) same
 
 -- Lines that unload no module.
 abbrev pub IsQuiet : List TraceLine → Type 0
@@ -82,6 +90,7 @@ is_unload (line.Say t i b) = false
 is_unload (line.Done t i) = false
 is_unload (line.Fault t u i n a) = false
 is_unload (line.Unload t i) = true
+is_unload (line.Absent t i) = false
 is_unload (line.EndIdle t) = false
 is_unload (line.EndBudget t) = false
 
@@ -106,8 +115,21 @@ image_quiet None image k r = quiet_by [] refl
 image_quiet (Some None) image k r = quiet_by [] refl
 image_quiet (Some (Some m)) image k r = new_quiet (is_loaded k.modules m.id) m image k r
 
+unload_quiet : (o : Option ModuleRow) (id : ℕ) (k : KernelState) (r : RunnerState) → IsQuiet (unload_module o id k r).lines
+unload_quiet None id k r = quiet_by (line.Absent k.clock id ∷ []) refl
+unload_quiet (Some row) id k r = quiet_by (line.Run k.clock id 1 0 ∷ []) refl
+
 pub came_quiet : (images : List (Option Module)) (w : What) (k : KernelState) (r : RunnerState) → IsQuiet (came images w k r).lines
 came_quiet images (what.Load n) k r = image_quiet (slice_get images n) n k r
+came_quiet images (what.Unload id) k r = unload_quiet (module_named k.modules id) id k r
+
+deliver_quiet : (o : Option ModuleRow) (m : Message) (k : KernelState) (r : RunnerState) → IsQuiet (deliver o m k r).lines
+deliver_quiet None m k r = quiet_by [] refl
+deliver_quiet (Some row) m k r = quiet_by (line.Run k.clock row.id m.sort m.from ∷ []) refl
+
+pub dispatch_quiet : (o : Option Message) (k : KernelState) (r : RunnerState) → IsQuiet (dispatch o k r).lines
+dispatch_quiet None k r = quiet_by [] refl
+dispatch_quiet (Some m) k r = deliver_quiet (module_named k.modules m.to) m k r
 
 -- A fault unloads the module of the running domain.
 
@@ -126,48 +148,92 @@ unloaded_id lines x at id time other not_it quiet c =
           ]
     ]
 
--- The change after a fault or a watchdog's strike names nothing of a module whose id the lines unload.
-faulted_clean : (note : FaultNote) (run : Running) (k : KernelState) (r : RunnerState) (lines : List TraceLine) → GoodMachine k r → k.running ≡ Some run → IsQuiet lines → (time : ℕ) (m : ModuleRow) → Contains (faulted note run k r lines).lines (line.Unload time m.id) → Contains k.modules m → ¬ Names (faulted note run k r lines).kernel m.id m.domain
-faulted_clean note run k r lines h i quiet time m c cm =
-    let id = unloaded_id lines _ k.clock m.id time (id_at k.modules run.domain) refl quiet c in
-    let e = its_domain k r run.domain m h (running_good k r run h i).0.loaded cm id in
-    subst (λ (d : ℕ). ¬ Names (purged (handler_ended k) d) m.id m.domain) e (purged_names k r m h cm)
+pub last_id : (lines : List TraceLine) (at id time other : ℕ) → IsQuiet lines → Contains (lines ++ line.Unload at other ∷ []) (line.Unload time id) → other ≡ id
+last_id lines at id time other quiet c =
+    elim (Contains-append_cases lines (line.Unload at other ∷ []) (line.Unload time id) c) [
+      | inl before ↦ absurd (quiet time id before)
+      | inr later ↦
+          elim (contained_cases (line.Unload at other) [] (line.Unload time id) later) [
+            | inl e ↦ cc
+            | inr none ↦ absurd (contained_nowhere (line.Unload time id) none)
+          ]
+    ]
 
 -- a unit's step unloads nothing, nor does a handler's end
 pub step_quiet : (k : KernelState) (r : RunnerState) (got : Acted) → UnitStep k r got → IsQuiet got.lines
 step_quiet k r got step time id h =
     act_unloads_nothing k r time id (subst (λ (xs : List TraceLine). Contains xs (line.Unload time id)) step.lines h)
 
-pub done_quiet : (run : Running) (k : KernelState) (r : RunnerState) (lines : List TraceLine) → IsQuiet lines → IsQuiet (settled Over run k r lines).lines
-done_quiet run k r lines quiet time id c =
+pub done_quiet : (run : Running) (k : KernelState) (lines : List TraceLine) → IsQuiet lines → IsQuiet (lines ++ line.Done k.clock (id_at k.modules run.domain) ∷ [])
+done_quiet run k lines quiet time id c =
     elim (Contains-append_cases lines (line.Done k.clock (id_at k.modules run.domain) ∷ []) (line.Unload time id) c) [
       | inl before ↦ quiet time id before
       | inr later ↦ quiet_by (line.Done k.clock (id_at k.modules run.domain) ∷ []) refl time id later
     ]
 
-settled_clean : (e : UnitEnd) (run : Running) (k : KernelState) (r : RunnerState) (lines : List TraceLine) → GoodMachine k r → k.running ≡ Some run → IsQuiet lines → (time : ℕ) (m : ModuleRow) → Contains (settled e run k r lines).lines (line.Unload time m.id) → Contains k.modules m → ¬ Names (settled e run k r lines).kernel m.id m.domain
-settled_clean On run k r lines h i quiet time m c cm = absurd (quiet time m.id c)
-settled_clean Over run k r lines h i quiet time m c cm = absurd (done_quiet run k r lines quiet time m.id c)
-settled_clean (Fault note) run k r lines h i quiet time m c cm = faulted_clean note run k r lines h i quiet time m c cm
+-- What a unit's end makes of kernel and runner, where it unloads a module: that of the running domain is gone.
+pub record Unloads (k : KernelState) (run : Running) (id domain : ℕ) (moved : Moved) : Type 0 where
+  pub kernel : moved.kernel ≡ gone k id domain
+  pub id_of : id_at k.modules run.domain ≡ id
+  pub domain_of : domain ≡ run.domain
+
+module _ (k : KernelState) (r : RunnerState) (run : Running) (h : GoodMachine k r) (i : k.running ≡ Some run) where
+  unloads_by : (moved : Moved) (m : ModuleRow) → moved.kernel ≡ gone k (id_at k.modules run.domain) run.domain → Contains k.modules m → id_at k.modules run.domain ≡ m.id → Unloads k run m.id m.domain moved
+  unloads_by moved m e c id =
+      let domain = row_of_domain k.modules run.domain m h.distinct (running_good k r run h i).0.loaded c id in
+      record {
+        kernel = e ∙ ap (λ (x : ℕ). gone k x run.domain) id ∙ ap (λ (x : ℕ). gone k m.id x) (sym domain);
+        id_of = id;
+        domain_of = domain;
+      }
+
+  pub faulted_unloads : (note : FaultNote) (lines : List TraceLine) → IsQuiet lines → (time : ℕ) (m : ModuleRow) → Contains (faulted note run k r lines).lines (line.Unload time m.id) → Contains k.modules m → Unloads k run m.id m.domain (faulted note run k r lines)
+  faulted_unloads note lines quiet time m c cm =
+      let is = faulted_is k r run h i note lines in
+      let there = subst (λ (x : Moved). Contains x.lines (line.Unload time m.id)) is c in
+      unloads_by (faulted note run k r lines) m (ap (λ (x : Moved). x.kernel) is) cm (unloaded_id lines _ k.clock m.id time (id_at k.modules run.domain) refl quiet there)
+
+  over_unloads : (o : Option ℕ) (lines : List TraceLine) → k.ending ≡ o → IsQuiet lines → (time : ℕ) (m : ModuleRow) → Contains (settled Over run k r lines).lines (line.Unload time m.id) → Contains k.modules m → Unloads k run m.id m.domain (settled Over run k r lines)
+  over_unloads None lines e quiet time m c cm =
+      absurd (done_quiet run k lines quiet time m.id (subst (λ (x : Moved). Contains x.lines (line.Unload time m.id)) (over_is run k r lines e) c))
+  over_unloads (Some id) lines e quiet time m c cm =
+      let is = over_ending_is k r run h i id lines e in
+      let there = subst (λ (x : Moved). Contains x.lines (line.Unload time m.id)) is c in
+      unloads_by (settled Over run k r lines) m (ap (λ (x : Moved). x.kernel) is) cm
+      (last_id (lines ++ line.Done k.clock (id_at k.modules run.domain) ∷ []) k.clock m.id time (id_at k.modules run.domain) (done_quiet run k lines quiet) there)
+
+  pub settled_unloads : (e : UnitEnd) (lines : List TraceLine) → IsQuiet lines → (time : ℕ) (m : ModuleRow) → Contains (settled e run k r lines).lines (line.Unload time m.id) → Contains k.modules m → Unloads k run m.id m.domain (settled e run k r lines)
+  settled_unloads On lines quiet time m c cm = absurd (quiet time m.id c)
+  settled_unloads Over lines quiet time m c cm = over_unloads k.ending lines refl quiet time m c cm
+  settled_unloads (Fault note) lines quiet time m c cm = faulted_unloads note lines quiet time m c cm
+
+-- The change after a unit's end or a watchdog's strike names nothing of a module whose id the lines unload.
+unloaded_clean : (k : KernelState) (r : RunnerState) (run : Running) (m : ModuleRow) (moved : Moved) → GoodMachine k r → Contains k.modules m → Unloads k run m.id m.domain moved → ¬ Names moved.kernel m.id m.domain
+unloaded_clean k r run m moved h c u = subst (λ (x : KernelState). ¬ Names x m.id m.domain) (sym u.kernel) (purged_names k r m h c)
 
 made_clean : (c : Choice) (s : State) (got : Acted) → Good s → Facts c s → May c s got → UnloadsCleanly s (made c s got).state (made c s got).lines
 made_clean Stays s got g facts may time m c cm = absurd (quiet_by [] refl time m.id c)
 made_clean (Comes e) s got g facts may time m c cm = absurd (came_quiet s.images e.what s.kernel s.runner time m.id c)
+made_clean Dispatches s got g facts may time m c cm = absurd (dispatch_quiet (front s.kernel.queues) s.kernel s.runner time m.id c)
 made_clean (Jumps now) s got g facts may time m c cm = absurd (quiet_by [] refl time m.id c)
 made_clean Idles s got g facts may time m c cm = absurd (quiet_by (line.EndIdle s.kernel.clock ∷ []) refl time m.id c)
 made_clean Budgets s got g facts may time m c cm = absurd (quiet_by (line.EndBudget s.kernel.clock ∷ []) refl time m.id c)
-made_clean (Watches run) s got g facts may time m c cm = faulted_clean (watchdog s) run s.kernel s.runner [] g.machine facts.running (quiet_by [] refl) time m c cm
+made_clean (Watches run) s got g facts may time m c cm =
+    unloaded_clean s.kernel s.runner run m (faulted (watchdog s) run s.kernel s.runner []) g.machine cm
+    (faulted_unloads s.kernel s.runner run g.machine facts.running (watchdog s) [] (quiet_by [] refl) time m c cm)
 made_clean (Acts run) s got g facts may time m c cm =
-    let rest = step_processor_alone s.kernel s.runner got may in
+    let rest = step_changes_alone s.kernel s.runner got may in
     let running : got.kernel.running ≡ Some run = ap (λ (k : KernelState). k.running) rest ∙ facts.running in
     let there : Contains got.kernel.modules m = subst (λ (k : KernelState). Contains k.modules m) (sym rest) cm in
+    let good = step_good s.kernel s.runner got may g.machine in
     λ names.
-    settled_clean got.ending run got.kernel got.runner got.lines (step_good s.kernel s.runner got may g.machine) running (step_quiet s.kernel s.runner got may) time m c there
-    (names_alike (settled got.ending run got.kernel got.runner got.lines).kernel _ m.id m.domain refl refl refl refl names)
+    unloaded_clean got.kernel got.runner run m (settled got.ending run got.kernel got.runner got.lines) good there
+    (settled_unloads got.kernel got.runner run good running got.ending got.lines (step_quiet s.kernel s.runner got may) time m c there)
+    (names_alike (settled got.ending run got.kernel got.runner got.lines).kernel _ m.id m.domain refl refl refl refl refl names)
 
 pub turn_unloads : (s t : State) (lines : List TraceLine) → Good s → Turn s t lines → UnloadsCleanly s t lines
 turn_unloads s t lines g turn time m c cm =
     leaves (λ (x : State). ¬ Names x.kernel m.id m.domain)
-    (λ x memory same clean names. clean (names_alike x.kernel (with_memory x.kernel memory) m.id m.domain refl refl refl refl names))
+    (λ x memory same clean names. clean (names_alike x.kernel (with_memory x.kernel memory) m.id m.domain refl refl refl refl refl names))
     (choice s) (made (choice s) s turn.got).state t turn.to
     (made_clean (choice s) s turn.got g (choice_facts s) turn.may time m (subst (λ (xs : List TraceLine). Contains xs (line.Unload time m.id)) turn.tells c) cm)

@@ -1,8 +1,10 @@
 -- What one unit does.
-use Rattle.std.specs.Prelude.{ℕ, ◌+◌, ◌==◌, List, [], ◌∷◌, Bool, true, false, Option, Some, None, slice_get, find, unwrap_or}
+use Rattle.std.specs.Prelude.{ℕ, ◌+◌, ◌%◌, ◌==◌, nat_lt, List, [], ◌∷◌, length, Bool, true, false, Option, Some, None, slice_get, find, unwrap_or}
+use Rattle.std.specs.List.{list_any}
 use Rattle.std.specs.Option.{option_map_or}
 use Rattle.avr_isa.specs.declared.instruction.Instr.{Instr}
 use Rattle.avr_isa.specs.declared.instruction.Instr.TheVariants.{Ldi, Mov, StX}
+use Rattle.mote_base.specs.Messages.{list_of, appended, queue_limit}
 use Rattle.mote_layout.specs.Store.{may_store as permits}
 use Rattle.domain_model.specs.declared.unit.Unit.{Unit}
 use Rattle.domain_model.specs.declared.unit.Unit.TheVariants.{Plain, Store, KernelCall, Return}
@@ -14,8 +16,8 @@ use Rattle.domain_model.specs.declared.fault.UnitEnd.{UnitEnd}
 use Rattle.domain_model.specs.declared.fault.UnitEnd.TheVariants.{On, Over, Fault}
 use Rattle.domain_model.specs.declared.line.TraceLine.{TraceLine}
 use Rattle.domain_model.specs.declared.line.TraceLine.TheVariants as line
-use Rattle.domain_model.specs.State.{Processor, KernelState, RunnerState, register, with_register, pair, with_pair, with_byte, with_processor}
-use Rattle.domain_model.specs.Units.{say_call}
+use Rattle.domain_model.specs.State.{Processor, Message, KernelState, RunnerState, register, with_register, pair, with_pair, with_byte, with_processor}
+use Rattle.domain_model.specs.Units.{Service, PostShort, Say, MyId, service_of}
 
 -- Kernel and runner after a unit, the lines that it wrote, and how it ended.
 pub record Acted : Type 0 where
@@ -44,6 +46,10 @@ module_at modules domain = find (λ m. m.domain == domain) modules
 -- its id; 0 where there is none
 abbrev pub id_at : List ModuleRow → ℕ → ℕ
 id_at modules domain = option_map_or (λ (m : ModuleRow). m.id) (module_at modules domain) 0
+
+-- A module with that id is loaded.
+abbrev pub is_loaded : List ModuleRow → ℕ → Bool
+is_loaded modules id = list_any (λ m. m.id == id) modules
 
 -- Where the running domain may store: in its own blocks, and on its own part of the stack.
 abbrev pub may_store : KernelState → Running → ℕ → Bool
@@ -78,16 +84,46 @@ abbrev pub act_return : Bool → KernelState → RunnerState → Acted
 act_return true k r = returns k r
 act_return false k r = faults rule.Balance k.processor.sp k r
 
--- The kernel call `say` writes the byte in R24 and answers 0. A unit of another number is never there.
-abbrev pub act_call : Bool → Running → KernelState → RunnerState → Acted
-act_call true run k r =
+-- The short message that the registers of a post ask for: to the module in R24, with the type in R22, the byte in
+-- R20 and the word in R19:R18, by the high queue where bit 0 of R16 is set. The sender is the running module.
+abbrev pub message_of : KernelState → Running → Message
+message_of k run =
+    record {
+      to = register k.processor 24;
+      from = id_at k.modules run.domain;
+      sort = register k.processor 22;
+      byte = register k.processor 20;
+      word = pair k.processor 18;
+      long = false;
+      len = 0;
+      load = None;
+      high = register k.processor 16 % 2 == 1;
+    }
+
+-- A post answers 2 where its receiver isn't loaded, else 1 where its queue is full, and else posts and answers 0.
+abbrev pub post_where : Bool → Message → KernelState → KernelState
+post_where true m k = answered (record k { queues = appended m.high m k.queues }) 0
+post_where false m k = answered k 1
+
+abbrev pub post_to : Bool → Message → KernelState → KernelState
+post_to true m k = post_where (nat_lt (length (list_of m.high k.queues)) queue_limit) m k
+post_to false m k = answered k 2
+
+abbrev pub post_short : KernelState → Running → KernelState
+post_short k run = post_to (is_loaded k.modules (message_of k run).to) (message_of k run) k
+
+-- A kernel call, by its service. `say` writes the byte in R24 and answers 0. A call of another number is never there.
+abbrev pub act_call : Option Service → Running → KernelState → RunnerState → Acted
+act_call (Some PostShort) run k r = goes_on (post_short k run) r []
+act_call (Some Say) run k r =
     goes_on (answered k 0) r (line.Say k.clock (id_at k.modules run.domain) (register k.processor 24) ∷ [])
-act_call false run k r = goes_on k r []
+act_call (Some MyId) run k r = goes_on (answered k (id_at k.modules run.domain)) r []
+act_call None run k r = goes_on k r []
 
 abbrev pub act_unit : Unit → Running → KernelState → RunnerState → Acted
 act_unit (Plain i) run k r = goes_on (with_processor k (plain_effect i k.processor)) r []
 act_unit (Store i) run k r = act_store (may_store k run (store_address k.processor)) i k r
-act_unit (KernelCall n) run k r = act_call (n == say_call) run k r
+act_unit (KernelCall n) run k r = act_call (service_of n) run k r
 act_unit Return run k r = act_return (k.processor.sp == run.base) k r
 
 -- the units of a domain's module

@@ -1,5 +1,5 @@
 -- The command that the words are, and the files that it takes.
-use Rattle.std.specs.Prelude.{ℕ, ◌&&◌, ◌==◌, nat_lt, if◌then◌else◌, Bool, List, [], ◌∷◌, length, slice_index, codes, Option, Some, None}
+use Rattle.std.specs.Prelude.{ℕ, ◌&&◌, ◌==◌, nat_lt, nat_le, if◌then◌else◌, Bool, List, [], ◌∷◌, length, slice_index, codes, Option, Some, None}
 use Rattle.std.specs.List.{list_any}
 use Rattle.std.specs.Str.{bytes_eq}
 use Rattle.domain_model.specs.declared.request.Kind.{Kind}
@@ -18,13 +18,13 @@ is_option word = nat_lt 1 (length word) && (slice_index word 0 == 45)
 abbrev pub kind_of : List ℕ → Option Kind
 kind_of verb = if bytes_eq verb (codes "run") then Some Run else None
 
--- how many files it takes: `run` a script and an image
-abbrev pub operands : Kind → ℕ
-operands Run = 2
+-- whether it takes so many files: `run` a script and 1 to 64 images
+abbrev pub takes : Kind → ℕ → Bool
+takes Run count = nat_le 2 count && nat_le count 65
 
 abbrev pub with_files : Option Kind → List (List ℕ) → Option Command
 with_files None files = None
-with_files (Some kind) files = if length files == operands kind then Some (record { kind = kind; files = files }) else None
+with_files (Some kind) files = if takes kind (length files) then Some (record { kind = kind; files = files }) else None
 
 -- The first word names the command, and the others are its files. A word among these that looks like an
 -- option makes the words no command.

@@ -1,11 +1,12 @@
 -- What each choice of a turn says of the state.
-use Rattle.std.specs.Prelude.{◌≡◌, ◌≢◌, ℕ, ◌<◌, ◌≤◌, [], Some, None, slice_get}
+use Rattle.std.specs.Prelude.{◌≡◌, ◌≢◌, ℕ, ◌<◌, ◌≤◌, ⊤, List, [], ◌∷◌, Some, None, slice_get}
 use Rattle.domain_model.specs.declared.handler.Running.{Running}
 use Rattle.domain_model.specs.declared.event.Event.{Event}
 use Rattle.domain_model.specs.declared.event.Choice.{Choice}
-use Rattle.domain_model.specs.declared.event.Choice.TheVariants.{Stays, Comes, Jumps, Idles, Budgets, Watches, Acts}
+use Rattle.domain_model.specs.declared.event.Choice.TheVariants.{Stays, Comes, Dispatches, Jumps, Idles, Budgets, Watches, Acts}
 use Rattle.domain_model.specs.declared.event.Turned.TheVariants.{More}
-use Rattle.domain_model.specs.State.{State}
+use Rattle.mote_base.specs.Messages.{front}
+use Rattle.domain_model.specs.State.{Message, State}
 
 -- Outside a handler the first event is due.
 pub record IsDue (e : Event) (s : State) : Type 0 where
@@ -14,19 +15,34 @@ pub record IsDue (e : Event) (s : State) : Type 0 where
   pub first : slice_get s.events 0 ≡ Some e
   pub due : e.time ≤ s.kernel.clock
 
--- Outside a handler the first event is due at a later time.
+-- No event is due now.
+abbrev pub NoneDue : List Event → ℕ → Type 0
+NoneDue [] now = ⊤
+NoneDue (e ∷ es) now = now < e.time
+
+-- Outside a handler no event is due, and a message waits.
+pub record IsWaiting (s : State) : Type 0 where
+  pub live : s.ended ≡ More
+  pub outside : s.kernel.running ≡ None
+  pub none_due : NoneDue s.events s.kernel.clock
+  pub message : Message
+  pub first : front s.kernel.queues ≡ Some message
+
+-- Outside a handler no message waits, and the first event is due at a later time.
 pub record IsLater (time : ℕ) (s : State) : Type 0 where
   pub live : s.ended ≡ More
   pub outside : s.kernel.running ≡ None
+  pub none_waits : front s.kernel.queues ≡ None
   pub event : Event
   pub first : slice_get s.events 0 ≡ Some event
   pub time_of : event.time ≡ time
   pub later : s.kernel.clock < time
 
--- Outside a handler no event is to come.
+-- Outside a handler no message waits, and no event is to come.
 pub record IsIdle (s : State) : Type 0 where
   pub live : s.ended ≡ More
   pub outside : s.kernel.running ≡ None
+  pub none_waits : front s.kernel.queues ≡ None
   pub none : s.events ≡ []
 
 -- In a handler the budget of units is spent.
@@ -53,6 +69,7 @@ pub record IsActing (run : Running) (s : State) : Type 0 where
 abbrev pub Facts : Choice → State → Type 0
 Facts Stays s = s.ended ≢ More
 Facts (Comes e) s = IsDue e s
+Facts Dispatches s = IsWaiting s
 Facts (Jumps time) s = IsLater time s
 Facts Idles s = IsIdle s
 Facts Budgets s = IsSpent s

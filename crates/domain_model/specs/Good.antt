@@ -1,19 +1,19 @@
 -- What every turn keeps.
-use Rattle.std.specs.Prelude.{◌≡◌, ◌≢◌, ◌+◌, ◌^◌, ◌<◌, ◌≤◌, List, [], ◌∷◌, length, Option, Some, None, true, ⊤}
+use Rattle.std.specs.Prelude.{◌⊎◌, ℕ, ◌≡◌, ◌≢◌, ◌+◌, ◌^◌, ◌<◌, ◌≤◌, List, [], ◌∷◌, length, Option, Some, None, true, ⊤}
 use Rattle.std.specs.List.{AllByRecursion}
+use Rattle.mote_base.specs.Messages.{Lists, AreWithinLimit}
 use Rattle.mote_layout.specs.Memory.{ram_bytes, domain_count, stack_top, floor}
 use Rattle.mote_layout.specs.Limits.{unit_limit, handler_limit}
 use Rattle.mote_layout.specs.Blocks.{AreBlocks}
 use Rattle.mote_layout.specs.declared.segment.Segment.{Segment}
 use Rattle.domain_model.specs.declared.module.ModuleRow.{ModuleRow}
 use Rattle.domain_model.specs.declared.handler.Running.{Running}
-use Rattle.domain_model.specs.declared.handler.Message.{Message}
 use Rattle.domain_model.specs.declared.event.Event.{Event}
 use Rattle.domain_model.specs.Image.{Module}
 use Rattle.domain_model.specs.Units.{AreProper}
-use Rattle.domain_model.specs.State.{Processor, KernelState, RunnerState, State}
-use Rattle.domain_model.specs.Act.{bank}
-use Rattle.domain_model.specs.Turn.{is_loaded, in_use}
+use Rattle.domain_model.specs.State.{Processor, Message, KernelState, RunnerState, State}
+use Rattle.domain_model.specs.Act.{bank, id_at, is_loaded}
+use Rattle.domain_model.specs.Turn.{in_use}
 
 -- The processor has 32 registers and 4096 bytes of memory.
 pub record GoodProcessor (p : Processor) : Type 0 where
@@ -50,14 +50,30 @@ pub record GoodRunning (k : KernelState) (r : RunnerState) (run : Running) : Typ
   pub bound : run.base ≤ run.bound
   pub top : (run.base ≡ stack_top) × (run.bound ≡ stack_top)
 
+-- A message's receiver is loaded, and its sender is the kernel, the radio (255) or loaded.
+pub record IsKnown (modules : List ModuleRow) (m : Message) : Type 0 where
+  pub receiver : is_loaded modules m.to ≡ true
+  pub sender : ((m.from ≡ 0) ⊎ (m.from ≡ 255)) ⊎ (is_loaded modules m.from ≡ true)
+
 abbrev pub GoodHand : List ModuleRow → Option Message → Type 0
 GoodHand modules None = ⊥
-GoodHand modules (Some m) = is_loaded modules m.to ≡ true
+GoodHand modules (Some m) = IsKnown modules m
 
--- Outside a handler no message is in hand.
+-- The module that ends, if one does, is the one that runs.
+abbrev pub GoodEnding : KernelState → Running → Option ℕ → Type 0
+GoodEnding k run None = ⊤
+GoodEnding k run (Some id) = id ≡ id_at k.modules run.domain
+
+-- Outside a handler no message is in hand, and no module ends.
 abbrev pub GoodHandler : KernelState → RunnerState → Option Running → Type 0
-GoodHandler k r None = k.hand ≡ None
-GoodHandler k r (Some run) = GoodRunning k r run × GoodHand k.modules k.hand
+GoodHandler k r None = (k.hand ≡ None) × (k.ending ≡ None)
+GoodHandler k r (Some run) = GoodRunning k r run × GoodHand k.modules k.hand × GoodEnding k run k.ending
+
+-- Each list has at most sixteen messages, each between modules that are loaded.
+pub record GoodQueues (modules : List ModuleRow) (queues : Lists Message) : Type 0 where
+  pub within : AreWithinLimit queues
+  pub high : AllByRecursion (IsKnown modules) queues.high
+  pub low : AllByRecursion (IsKnown modules) queues.low
 
 -- Kernel and runner together.
 pub record GoodMachine (k : KernelState) (r : RunnerState) : Type 0 where
@@ -67,6 +83,7 @@ pub record GoodMachine (k : KernelState) (r : RunnerState) : Type 0 where
   pub distinct : AreDistinct k.modules
   pub blocks : AreBlocks k.blocks
   pub owners : AreOwned k.modules k.blocks
+  pub queues : GoodQueues k.modules k.queues
   pub handler : GoodHandler k r k.running
 
 -- A module that can be loaded.

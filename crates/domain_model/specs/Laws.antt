@@ -1,20 +1,20 @@
 -- What holds of every turn of every run.
 use Rattle.std.specs.Prelude.{◌≡◌, ◌≢◌, ◌⊎◌, ℕ, ◌+◌, ◌≤◌, List, Option, Some, None, Contains, true, false, slice_index, ⊤}
+use Rattle.mote_base.specs.Messages.{in_order}
 use Rattle.mote_layout.specs.Memory.{ram_start, red_zone_start, kernel_bytes_start, kernel_bytes_end, kernel}
 use Rattle.mote_layout.specs.Blocks.{without_owner, owns}
 use Rattle.mote_layout.specs.declared.segment.Segment.{Segment}
 use Rattle.domain_model.specs.declared.module.ModuleRow.{ModuleRow}
 use Rattle.domain_model.specs.declared.handler.Running.{Running}
-use Rattle.domain_model.specs.declared.handler.Message.{Message}
 use Rattle.domain_model.specs.declared.event.Choice.TheVariants.{Acts}
 use Rattle.domain_model.specs.declared.fault.FaultNote.{FaultNote}
 use Rattle.domain_model.specs.declared.fault.UnitEnd.TheVariants.{Fault}
 use Rattle.domain_model.specs.declared.line.TraceLine.{TraceLine}
 use Rattle.domain_model.specs.declared.line.TraceLine.TheVariants as line
-use Rattle.domain_model.specs.State.{KernelState, State}
+use Rattle.domain_model.specs.State.{Message, KernelState, State}
 use Rattle.domain_model.specs.Act.{act}
 use Rattle.domain_model.specs.Free.{enters_kernel}
-use Rattle.domain_model.specs.Turn.{choice, without_domain, Turn, RunBy, RunFrom}
+use Rattle.domain_model.specs.Turn.{choice, unnamed, without_domain, Turn, RunBy, RunFrom}
 use Rattle.domain_model.specs.Good.{Good}
 
 -- Confinement.
@@ -27,7 +27,9 @@ MayChange k run address = (owns k.blocks run.domain address ≡ true) ⊎ ((red_
 pub record KeepsOthers (k : KernelState) (run : Running) (new : KernelState) : Type 0 where
   pub blocks : new.blocks ≡ k.blocks
   pub modules : new.modules ≡ k.modules
+  pub queues : new.queues ≡ k.queues
   pub hand : new.hand ≡ k.hand
+  pub ending : new.ending ≡ k.ending
   pub running : new.running ≡ k.running
   pub memory : (i : ℕ) → slice_index new.processor.memory i ≢ slice_index k.processor.memory i → MayChange k run (i + ram_start)
 
@@ -69,6 +71,7 @@ Crosses s t = CrossesBy s.kernel.running t.kernel.running t
 -- Something still names the module or its domain.
 pub data Names (k : KernelState) (id domain : ℕ) : Type 0 where
   a_module : (m : ModuleRow) → Contains k.modules m → (m.id ≡ id) ⊎ (m.domain ≡ domain) → Names k id domain
+  a_message : (m : Message) → Contains (in_order k.queues) m → (m.to ≡ id) ⊎ (m.from ≡ id) → Names k id domain
   the_message : (m : Message) → k.hand ≡ Some m → (m.to ≡ id) ⊎ (m.from ≡ id) → Names k id domain
   a_block : (b : Segment) → Contains k.blocks b → b.owner ≡ domain → Names k id domain
   a_lost_payload : (b : Segment) → Contains k.blocks b → b.owner ≡ kernel → Names k id domain
@@ -79,16 +82,18 @@ abbrev pub UnloadsCleanly : State → State → List TraceLine → Type 0
 UnloadsCleanly s t lines =
     (time : ℕ) (m : ModuleRow) → Contains lines (line.Unload time m.id) → Contains s.kernel.modules m → ¬ Names t.kernel m.id m.domain
 
--- The other modules stay in their order, and so do their blocks with the bytes in them.
-pub record KeepsTheRest (k : KernelState) (domain : ℕ) (new : KernelState) : Type 0 where
+-- The other modules stay in their order, and so do the messages that don't name this one, and their blocks with
+-- the bytes in them.
+pub record KeepsTheRest (k : KernelState) (id domain : ℕ) (new : KernelState) : Type 0 where
   pub modules : new.modules ≡ without_domain domain k.modules
+  pub queues : new.queues ≡ unnamed id k.queues
   pub blocks : new.blocks ≡ without_owner domain k.blocks
   pub bytes : (other i : ℕ) → other ≢ domain → owns k.blocks other (i + ram_start) ≡ true → slice_index new.processor.memory i ≡ slice_index k.processor.memory i
 
 -- Where a turn says that a module is unloaded, the others are as they were.
 abbrev pub UnloadsAlone : State → State → List TraceLine → Type 0
 UnloadsAlone s t lines =
-    (time : ℕ) (m : ModuleRow) → Contains lines (line.Unload time m.id) → Contains s.kernel.modules m → KeepsTheRest s.kernel m.domain t.kernel
+    (time : ℕ) (m : ModuleRow) → Contains lines (line.Unload time m.id) → Contains s.kernel.modules m → KeepsTheRest s.kernel m.id m.domain t.kernel
 
 -- A turn, with all that holds of it.
 pub record LawfulTurn (s t : State) (lines : List TraceLine) : Type 0 where

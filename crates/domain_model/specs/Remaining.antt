@@ -3,6 +3,7 @@ use Rattle.std.specs.Prelude.{ℕ, ◌+◌, ◌-◌, ◌*◌, nat_lt, List, [], 
 use Rattle.domain_model.specs.declared.event.Event.{Event}
 use Rattle.domain_model.specs.declared.event.Turned.{Turned}
 use Rattle.domain_model.specs.declared.event.Turned.TheVariants.{More, EndIdle, EndBudget}
+use Rattle.mote_base.specs.Messages.{in_order}
 use Rattle.domain_model.specs.State.{State}
 
 abbrev pub one_if : Bool → ℕ
@@ -19,9 +20,9 @@ goes_on More = true
 goes_on EndIdle = false
 goes_on EndBudget = false
 
--- A unit pays for itself and for the end of its handler, an event for its handler and for the jump to the
--- next event.
+-- A unit pays for itself, for the message that it posts and for the end of its handler; a message for its handler;
+-- an event for its handler and for the jump to the next event.
 unfoldable pub remaining : State → ℕ
 remaining s =
-    4 * (s.unit_limit - s.total) + 4 * length s.events + one_if (is_some s.kernel.running)
+    6 * (s.unit_limit - s.total) + 4 * length s.events + 2 * length (in_order s.kernel.queues) + one_if (is_some s.kernel.running)
     + one_if (is_late s.events s.kernel.clock) + one_if (goes_on s.ended)

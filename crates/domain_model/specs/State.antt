@@ -1,11 +1,12 @@
 -- The state of the machine.
-use Rattle.std.specs.Prelude.{ℕ, ◌+◌, ◌-◌, ◌*◌, List, [], ◌∷◌, ◌++◌, Option, None, slice_index, slice_set, replicate, take, drop, map}
+use Rattle.std.specs.Prelude.{⊤, ℕ, ◌+◌, ◌-◌, ◌*◌, List, [], ◌∷◌, ◌++◌, Option, None, slice_index, slice_set, replicate, take, drop, map}
 use Rattle.mote_layout.specs.Memory.{ram_start, ram_bytes, message_frame_bytes, domain_count, stack_top}
+use Rattle.mote_base.specs.declared.message.Msg.{Msg}
+use Rattle.mote_base.specs.Messages.{Lists}
 use Rattle.mote_layout.specs.declared.segment.Segment.{Segment}
 use Rattle.domain_model.specs.declared.unit.Unit.{Unit}
 use Rattle.domain_model.specs.declared.module.ModuleRow.{ModuleRow}
 use Rattle.domain_model.specs.declared.handler.Running.{Running}
-use Rattle.domain_model.specs.declared.handler.Message.{Message}
 use Rattle.domain_model.specs.declared.event.Event.{Event}
 use Rattle.domain_model.specs.declared.event.Turned.{Turned}
 use Rattle.domain_model.specs.declared.event.Turned.TheVariants.{More}
@@ -20,16 +21,23 @@ pub record Processor : Type 0 where
   pub sp : ℕ
   pub memory : List ℕ
 
+-- A message. None has a payload yet.
+abbrev pub Message : Type 0
+Message = Msg ⊤
+
 -- What the kernel keeps: the clock, the processor, the owned blocks of the heap, the loaded modules in the
--- order of their loads, the domain that runs, and the message in hand. Outside a handler no domain runs and
--- no message is in hand, and the registers, SREG and SP mean nothing.
+-- order of their loads, the messages that wait, the domain that runs, the message in hand, and the id of the
+-- module whose last message that is. Outside a handler no domain runs, no message is in hand and no module
+-- ends, and the registers, SREG and SP mean nothing.
 pub record KernelState : Type 0 where
   pub clock : ℕ
   pub processor : Processor
   pub blocks : List Segment
   pub modules : List ModuleRow
+  pub queues : Lists Message
   pub running : Option Running
   pub hand : Option Message
+  pub ending : Option ℕ
 
 -- What a runner keeps: the units of each domain's module, by domain, and the number of the unit that runs
 -- next.
@@ -107,7 +115,17 @@ abbrev pub no_processor : Processor
 no_processor = record { registers = replicate 32 0; sreg = 0; sp = 0; memory = no_bytes }
 
 abbrev pub no_kernel : KernelState
-no_kernel = record { clock = 0; processor = no_processor; blocks = []; modules = []; running = None; hand = None }
+no_kernel =
+    record {
+      clock = 0;
+      processor = no_processor;
+      blocks = [];
+      modules = [];
+      queues = record { high = []; low = [] };
+      running = None;
+      hand = None;
+      ending = None;
+    }
 
 abbrev pub no_runner : RunnerState
 no_runner = record { banks = replicate domain_count []; unit = 0 }

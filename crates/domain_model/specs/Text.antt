@@ -4,7 +4,7 @@ use Rattle.std.specs.List.{flat_map}
 use Rattle.domain_model.specs.declared.fault.Rule.{Rule}
 use Rattle.domain_model.specs.declared.fault.Rule.TheVariants.{Store, StackOver, StackUnder, Depth, Balance, Watchdog, Owner, Target}
 use Rattle.domain_model.specs.declared.line.TraceLine.{TraceLine}
-use Rattle.domain_model.specs.declared.line.TraceLine.TheVariants.{Load, Refused, Run, Say, Done, Fault, Unload, EndIdle, EndBudget}
+use Rattle.domain_model.specs.declared.line.TraceLine.TheVariants.{Load, Refused, Run, Say, Done, Fault, Unload, Absent, EndIdle, EndBudget}
 
 -- a digit of a hexadecimal number, in lower case
 abbrev pub hex_digit : ℕ → ℕ
@@ -38,6 +38,7 @@ text (Say t id b) = decimal t ++ codes " say" ++ field id ++ field b ++ codes "\
 text (Done t id) = decimal t ++ codes " done" ++ field id ++ codes "\n"
 text (Fault t rule id u a) = decimal t ++ codes " fault " ++ rule_text rule ++ field id ++ field u ++ codes " " ++ address_text a ++ codes "\n"
 text (Unload t id) = decimal t ++ codes " unload" ++ field id ++ codes "\n"
+text (Absent t id) = decimal t ++ codes " absent" ++ field id ++ codes "\n"
 text (EndIdle t) = decimal t ++ codes " end idle\n"
 text (EndBudget t) = decimal t ++ codes " end budget\n"
 

@@ -1,19 +1,19 @@
 -- Turns and runs.
-use Rattle.std.specs.Prelude.{◌≡◌, ◌≢◌, ℕ, ◌+◌, ◌-◌, ◌*◌, ◌==◌, ◌||◌, nat_le, not, List, [], ◌∷◌, ◌++◌, drop, filter, Bool, true, false, Option, Some, None, slice_get, slice_set, ⊤}
+use Rattle.std.specs.Prelude.{◌≡◌, ◌≢◌, ℕ, ◌+◌, ◌-◌, ◌*◌, ◌==◌, ◌||◌, nat_le, not, List, [], ◌∷◌, ◌++◌, drop, filter, find, Bool, true, false, Option, Some, None, slice_get, slice_set, ⊤}
 use Rattle.std.specs.List.{list_any}
 use Rattle.mote_layout.specs.Memory.{ram_start, heap_end, block_bytes, domain_count, stack_top}
+use Rattle.mote_base.specs.Messages.{Lists, front, without_front, names}
 use Rattle.mote_layout.specs.Blocks.{block_address, inserted, without_owner}
 use Rattle.mote_layout.specs.Fit.{fit, blocks_for, least_of}
 use Rattle.mote_layout.specs.declared.segment.Segment.{Segment}
 use Rattle.domain_model.specs.declared.unit.Unit.{Unit}
 use Rattle.domain_model.specs.declared.module.ModuleRow.{ModuleRow}
 use Rattle.domain_model.specs.declared.handler.Running.{Running}
-use Rattle.domain_model.specs.declared.handler.Message.{Message}
 use Rattle.domain_model.specs.declared.event.Event.{Event}
 use Rattle.domain_model.specs.declared.event.What.{What}
 use Rattle.domain_model.specs.declared.event.What.TheVariants as what
 use Rattle.domain_model.specs.declared.event.Choice.{Choice}
-use Rattle.domain_model.specs.declared.event.Choice.TheVariants.{Stays, Comes, Jumps, Idles, Budgets, Watches, Acts}
+use Rattle.domain_model.specs.declared.event.Choice.TheVariants.{Stays, Comes, Dispatches, Jumps, Idles, Budgets, Watches, Acts}
 use Rattle.domain_model.specs.declared.event.Turned.{Turned}
 use Rattle.domain_model.specs.declared.event.Turned.TheVariants.{More, EndIdle, EndBudget}
 use Rattle.domain_model.specs.declared.fault.FaultNote.{FaultNote}
@@ -23,8 +23,8 @@ use Rattle.domain_model.specs.declared.fault.UnitEnd.TheVariants.{On, Over, Faul
 use Rattle.domain_model.specs.declared.line.TraceLine.{TraceLine}
 use Rattle.domain_model.specs.declared.line.TraceLine.TheVariants as line
 use Rattle.domain_model.specs.Image.{Module}
-use Rattle.domain_model.specs.State.{KernelState, RunnerState, State, Input, start, dispatched, with_zeros}
-use Rattle.domain_model.specs.Act.{Acted, id_at}
+use Rattle.domain_model.specs.State.{Message, KernelState, RunnerState, State, Input, start, dispatched, with_zeros}
+use Rattle.domain_model.specs.Act.{Acted, id_at, is_loaded}
 use Rattle.domain_model.specs.Free.{SameState, UnitStep, is_kernel_byte}
 
 -- The kernel's part of a turn.
@@ -36,9 +36,9 @@ in_use modules domain = list_any (λ m. m.domain == domain) modules
 abbrev pub free_domain : List ModuleRow → Option ℕ
 free_domain modules = least_of (λ domain. not (in_use modules domain)) 0 domain_count
 
--- a module with that id is loaded
-abbrev pub is_loaded : List ModuleRow → ℕ → Bool
-is_loaded modules id = list_any (λ m. m.id == id) modules
+-- the loaded module with that id
+abbrev pub module_named : List ModuleRow → ℕ → Option ModuleRow
+module_named modules id = find (λ m. m.id == id) modules
 
 -- A state block: the blocks of the heap with it, the memory with its bytes cleared, and its address. A
 -- module that asks for no byte has none and the address 0.
@@ -85,13 +85,24 @@ begun k row m =
 abbrev pub handler_ended : KernelState → KernelState
 handler_ended k = record k { running = None; hand = None }
 
--- the module in a domain is out, and its blocks are free
+-- the modules but the one in a domain, and the messages but those from or to an id
 abbrev pub without_domain : ℕ → List ModuleRow → List ModuleRow
 without_domain domain modules = filter (λ m. not (m.domain == domain)) modules
 
-abbrev pub purged : KernelState → ℕ → KernelState
-purged k domain =
-    record k { modules = without_domain domain k.modules; blocks = without_owner domain k.blocks }
+abbrev pub without_named : ℕ → List Message → List Message
+without_named id messages = filter (λ m. not (names id m)) messages
+
+abbrev pub unnamed : ℕ → Lists Message → Lists Message
+unnamed id queues = record { high = without_named id queues.high; low = without_named id queues.low }
+
+-- The module with an id in a domain is out: its row, every block of its domain, and every message from or to it.
+abbrev pub purged : KernelState → ℕ → ℕ → KernelState
+purged k id domain =
+    record k {
+      modules = without_domain domain k.modules;
+      blocks = without_owner domain k.blocks;
+      queues = unnamed id k.queues;
+    }
 
 abbrev pub at_clock : KernelState → ℕ → KernelState
 at_clock k now = record k { clock = now }
@@ -112,14 +123,20 @@ entered r unit = record r { unit = unit }
 
 -- Which turn comes next: the first of these that applies.
 
--- Outside a handler: a due event; else the clock jumps to the next event; else the run ends.
-abbrev pub choose_event : Bool → Event → Choice
-choose_event true e = Comes e
-choose_event false e = Jumps e.time
+-- Outside a handler: a due event; else the first message; else the clock jumps to the next event; else the run
+-- ends.
+abbrev pub choose_message : Option Message → List Event → Choice
+choose_message (Some m) es = Dispatches
+choose_message None (e ∷ es) = Jumps e.time
+choose_message None [] = Idles
 
-abbrev pub choose_outside : List Event → ℕ → Choice
-choose_outside [] now = Idles
-choose_outside (e ∷ es) now = choose_event (nat_le e.time now) e
+abbrev pub choose_event : Bool → Event → Option Message → Choice
+choose_event true e waiting = Comes e
+choose_event false e waiting = choose_message waiting (e ∷ [])
+
+abbrev pub choose_outside : List Event → ℕ → Option Message → Choice
+choose_outside [] now waiting = choose_message waiting []
+choose_outside (e ∷ es) now waiting = choose_event (nat_le e.time now) e waiting
 
 -- In a handler: the run ends where its budget is spent; else the watchdog strikes where the handler's is;
 -- else a unit runs.
@@ -132,7 +149,7 @@ choose_inside true run s = Budgets
 choose_inside false run s = choose_unit (s.spent == s.handler_limit) run
 
 abbrev pub choose_running : Option Running → State → Choice
-choose_running None s = choose_outside s.events s.kernel.clock
+choose_running None s = choose_outside s.events s.kernel.clock (front s.kernel.queues)
 choose_running (Some run) s = choose_inside (s.total == s.unit_limit) run s
 
 abbrev pub choose_ended : Turned → State → Choice
@@ -154,9 +171,16 @@ abbrev pub refused : ℕ → ℕ → KernelState → RunnerState → Moved
 refused number image k r =
     record { kernel = k; runner = r; lines = line.Refused k.clock image number 0 0 0 ∷ [] }
 
--- INIT, the message that the kernel starts a module with: a short message of type 0 from sender 0
+-- The kernel's own messages: short ones from sender 0. INIT, type 0, starts a module; FINAL, type 1, is its last.
+abbrev pub kernel_message : ℕ → ℕ → Message
+kernel_message id sort =
+    record { to = id; from = 0; sort = sort; byte = 0; word = 0; long = false; len = 0; load = None; high = false }
+
 abbrev pub init_to : ℕ → Message
-init_to id = record { to = id; from = 0; sort = 0; byte = 0; word = 0 }
+init_to id = kernel_message id 0
+
+abbrev pub final_to : ℕ → Message
+final_to id = kernel_message id 1
 
 -- the module is loaded, and its handler starts at once
 abbrev pub row_of : Module → ℕ → Given → ModuleRow
@@ -190,29 +214,63 @@ load_image None image k r = record { kernel = k; runner = r; lines = [] }
 load_image (Some None) image k r = record { kernel = k; runner = r; lines = [] }
 load_image (Some (Some m)) image k r = load_new (is_loaded k.modules m.id) m image k r
 
+-- An unload of an id that no module has writes so. Else FINAL is dispatched, with the module as the one that ends.
+abbrev pub unload_module : Option ModuleRow → ℕ → KernelState → RunnerState → Moved
+unload_module None id k r = record { kernel = k; runner = r; lines = line.Absent k.clock id ∷ [] }
+unload_module (Some row) id k r =
+    record {
+      kernel = record (begun k row (final_to id)) { ending = Some id };
+      runner = entered r row.handler;
+      lines = line.Run k.clock id 1 0 ∷ [];
+    }
+
 abbrev pub came : List (Option Module) → What → KernelState → RunnerState → Moved
 came images (what.Load n) k r = load_image (slice_get images n) n k r
+came images (what.Unload id) k r = unload_module (module_named k.modules id) id k r
+
+-- The first message is dispatched to its receiver. In a state that a run reaches it is loaded.
+abbrev pub deliver : Option ModuleRow → Message → KernelState → RunnerState → Moved
+deliver None m k r = record { kernel = k; runner = r; lines = [] }
+deliver (Some row) m k r =
+    record {
+      kernel = begun (record k { queues = without_front k.queues }) row m;
+      runner = entered r row.handler;
+      lines = line.Run k.clock row.id m.sort m.from ∷ [];
+    }
+
+abbrev pub dispatch : Option Message → KernelState → RunnerState → Moved
+dispatch None k r = record { kernel = k; runner = r; lines = [] }
+dispatch (Some m) k r = deliver (module_named k.modules m.to) m k r
+
+-- At the end of a handler the module that ends is purged, where it is still loaded.
+abbrev pub ended : KernelState → KernelState
+ended k = record k { ending = None }
+
+abbrev pub close_module : Option ModuleRow → KernelState → RunnerState → List TraceLine → Moved
+close_module None k r lines = record { kernel = ended k; runner = r; lines = lines }
+close_module (Some row) k r lines =
+    record {
+      kernel = ended (purged k row.id row.domain);
+      runner = emptied r row.domain;
+      lines = lines ++ line.Unload k.clock row.id ∷ [];
+    }
+
+abbrev pub close : Option ℕ → KernelState → RunnerState → List TraceLine → Moved
+close None k r lines = record { kernel = k; runner = r; lines = lines }
+close (Some id) k r lines = close_module (module_named k.modules id) k r lines
 
 -- A handler that faults is over, and its module is purged.
 abbrev pub faulted : FaultNote → Running → KernelState → RunnerState → List TraceLine → Moved
 faulted note run k r lines =
-    record {
-      kernel = purged (handler_ended k) run.domain;
-      runner = emptied r run.domain;
-      lines = lines
-          ++ line.Fault k.clock note.rule (id_at k.modules run.domain) r.unit note.address
-          ∷ line.Unload k.clock (id_at k.modules run.domain) ∷ [];
-    }
+    close k.ending (purged (handler_ended k) (id_at k.modules run.domain) run.domain) (emptied r run.domain) (lines
+    ++ line.Fault k.clock note.rule (id_at k.modules run.domain) r.unit note.address
+    ∷ line.Unload k.clock (id_at k.modules run.domain) ∷ [])
 
 -- After a unit, by its end.
 abbrev pub settled : UnitEnd → Running → KernelState → RunnerState → List TraceLine → Moved
 settled On run k r lines = record { kernel = k; runner = r; lines = lines }
 settled Over run k r lines =
-    record {
-      kernel = handler_ended k;
-      runner = r;
-      lines = lines ++ line.Done k.clock (id_at k.modules run.domain) ∷ [];
-    }
+    close k.ending (handler_ended k) r (lines ++ line.Done k.clock (id_at k.modules run.domain) ∷ [])
 settled (Fault note) run k r lines = faulted note run k r lines
 
 -- The state after a turn, and its lines.
@@ -245,6 +303,8 @@ abbrev pub made : Choice → State → Acted → Made
 made Stays s got = record { state = s; lines = [] }
 made (Comes e) s got =
     made_of (record s { events = drop 1 s.events; spent = 0 }) (came s.images e.what s.kernel s.runner)
+made Dispatches s got =
+    made_of (record s { spent = 0 }) (dispatch (front s.kernel.queues) s.kernel s.runner)
 made (Jumps now) s got = record { state = record s { kernel = at_clock s.kernel now }; lines = [] }
 made Idles s got = record { state = record s { ended = EndIdle }; lines = line.EndIdle s.kernel.clock ∷ [] }
 made Budgets s got = record { state = record s { ended = EndBudget }; lines = line.EndBudget s.kernel.clock ∷ [] }
@@ -256,6 +316,7 @@ made (Acts run) s got = counted s (settled got.ending run got.kernel got.runner 
 abbrev pub May : Choice → State → Acted → Type 0
 May Stays s got = ⊤
 May (Comes e) s got = ⊤
+May Dispatches s got = ⊤
 May (Jumps now) s got = ⊤
 May Idles s got = ⊤
 May Budgets s got = ⊤
@@ -265,6 +326,7 @@ May (Acts run) s got = UnitStep s.kernel s.runner got
 abbrev pub Leaves : Choice → State → State → Type 0
 Leaves Stays want t = t ≡ want
 Leaves (Comes e) want t = SameState is_kernel_byte want t
+Leaves Dispatches want t = SameState is_kernel_byte want t
 Leaves (Jumps now) want t = SameState is_kernel_byte want t
 Leaves Idles want t = SameState is_kernel_byte want t
 Leaves Budgets want t = SameState is_kernel_byte want t

@@ -1,6 +1,6 @@
 -- The units of a module's code, as far as they are built: loads of constants, copies of registers, stores
--- through X, the kernel call that says a byte, and returns.
-use Rattle.std.specs.Prelude.{◌≡◌, ℕ, ◌-◌, ◌<◌, ◌≤◌, ◌==◌, ◌&&◌, nat_le, if◌then◌else◌, List, [], ◌∷◌, length, sum_by, Bool, true, false, Option, Some, None, Result, Ok, Err, zero, suc, ⊤}
+-- through X, three kernel calls, and returns.
+use Rattle.std.specs.Prelude.{◌≡◌, ℕ, ◌-◌, ◌<◌, ◌≤◌, ◌==◌, ◌&&◌, nat_le, if◌then◌else◌, List, [], ◌∷◌, length, sum_by, Bool, true, false, Option, Some, None, IsSome, Result, Ok, Err, zero, suc, ⊤}
 use Rattle.std.specs.List.{AllByRecursion}
 use Rattle.mote_layout.specs.Memory.{bank_words}
 use Rattle.avr_isa.specs.declared.instruction.Instr.{Instr}
@@ -10,17 +10,24 @@ use Rattle.avr_isa.specs.Decoded.{decoded}
 use Rattle.domain_model.specs.declared.unit.Unit.{Unit}
 use Rattle.domain_model.specs.declared.unit.Unit.TheVariants.{Plain, Store, KernelCall, Return}
 
--- The program address at which the kernel call `say` is entered, and the call's number.
-abbrev pub say_entry : ℕ
-say_entry = 0xF108
+-- The kernel calls that are built: post a short message, say a byte, tell the module's own id.
+pub data Service : Type 0 where
+  PostShort : Service
+  Say : Service
+  MyId : Service
 
-abbrev pub say_call : ℕ
-say_call = 8
+-- by the call's number
+abbrev pub service_of : ℕ → Option Service
+service_of n =
+    if n == 3 then Some PostShort else (if n == 8 then Some Say else (if n == 11 then Some MyId else None))
+
+-- The kernel call with number n is entered at the program address 0xF100 + n.
+abbrev pub call_unit : ℕ → Option Unit
+call_unit k =
+    if k == 0xF103 then Some (KernelCall 3)
+    else (if k == 0xF108 then Some (KernelCall 8) else (if k == 0xF10B then Some (KernelCall 11) else None))
 
 -- the unit that an instruction is
-abbrev pub call_unit : ℕ → Option Unit
-call_unit k = if k == say_entry then Some (KernelCall say_call) else None
-
 abbrev pub unit_of : Instr → Option Unit
 unit_of (Ldi d k) = Some (Plain (Ldi d k))
 unit_of (Mov d r) = Some (Plain (Mov d r))
@@ -99,7 +106,7 @@ IsBuilt (Plain (Mov d r)) = (d < 32) × (r < 32)
 IsBuilt (Plain _) = ⊥
 IsBuilt (Store (StX r)) = r < 32
 IsBuilt (Store _) = ⊥
-IsBuilt (KernelCall n) = n ≡ say_call
+IsBuilt (KernelCall n) = IsSome (service_of n)
 IsBuilt Return = ⊤
 
 -- A list of units that may be loaded.

@@ -7,6 +7,8 @@ use crate::handler::Running;
 pub enum What {
     /// Load the image with this number, counted from 0.
     Load(u8),
+    /// Unload the module with this id.
+    Unload(u8),
 }
 
 /// A line of the script.
@@ -35,9 +37,11 @@ pub enum Choice {
     Stays,
     /// An event of the script is due.
     Comes(Event),
-    /// Nothing is due: the clock becomes this time.
+    /// A message waits: the first is dispatched.
+    Dispatches,
+    /// Nothing is due and no message waits: the clock becomes this time.
     Jumps(u64),
-    /// Nothing is due or to come: the run ends.
+    /// Nothing is due, waits or is to come: the run ends.
     Idles,
     /// The budget of units is spent: the run ends.
     Budgets,

@@ -1,4 +1,4 @@
-//! What a running handler has: its domain with the stack that is its own, and the message that started it.
+//! What a running handler has: its domain with the stack that is its own.
 
 /// The domain that runs. A store is permitted from above the stack pointer up to the bound.
 #[derive(Clone, Copy, Debug, PartialEq, Eq)]
@@ -8,17 +8,4 @@ pub struct Running {
     pub base: u16,
     /// The last address of the stack that the domain may write.
     pub bound: u16,
-}
-
-/// A short message.
-#[derive(Clone, Copy, Debug, PartialEq, Eq)]
-pub struct Message {
-    /// The receiver's module id.
-    pub to: u8,
-    /// The sender's module id, or 0 for the kernel.
-    pub from: u8,
-    /// The type: 0 is INIT, the first message of a module.
-    pub sort: u8,
-    pub byte: u8,
-    pub word: u16,
 }

@@ -30,7 +30,7 @@ mod unit;
 
 pub use event::{Choice, Event, Turned, What};
 pub use fault::{FaultNote, Rule, UnitEnd};
-pub use handler::{Message, Running};
+pub use handler::Running;
 pub use laws::{every_good_state_runs_to_an_end, every_turn_is_lawful, images_are_their_fields};
 pub use line::TraceLine;
 pub use lines::Lines;

@@ -52,6 +52,11 @@ pub enum TraceLine {
         time: u64,
         id: u8,
     },
+    /// An unload event named no loaded module.
+    Absent {
+        time: u64,
+        id: u8,
+    },
     /// The run ended, for nothing was left to do.
     EndIdle {
         time: u64,
