@@ -16,8 +16,4 @@ two (x ∷ y ∷ []) a b low high p q = cc
 two (x ∷ y ∷ z ∷ zs) a b low high p q = absurd (omega arith)
 
 pub returns : goal.returns
-returns g c =
-    let files : c.script-item.result ∷ c.image-item.result ∷ [] ≡ c.args.files.now = two c.args.files.now c.script-item.result c.image-item.result c.in-len2.len_at_least c.in-len2.len_below c.script-item.is c.image-item.is in
-    ends_as _ _ _ _ _ _ (Answers (outcome_by c.args.kind (bytes_of c.args.files.now)))
-    (λ s t a. subst (λ kind. Answers (outcome_by kind (bytes_of c.args.files.now)) s t) (kind_is_run c.args.kind)
-    (subst (λ xs. Answers (outcome_by Run (bytes_of xs)) s t) files (rw (← c.deref.ensures.value, ← c.deref-in-len2.ensures.value) a))) c.run.result c.run.ensures
+returns g c = ?
