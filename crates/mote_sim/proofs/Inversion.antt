@@ -1,5 +1,6 @@
 -- What an answer says of the files and of the words.
 use Rattle.std.proofs.Common.{◌≡◌, ◌∙◌, ℕ, zero, suc, ◌+◌, ◌≤◌, refl, sym, ap, subst, arith, Bool, true, false, nat_lt, if◌then◌else◌, List, [], ◌∷◌, ◌++◌, length, Option, Some, None}
+use Rattle.std.proofs.Math.Dec.{eqb-suc-zero}
 use Rattle.std.proofs.lemmas.Bool.{ltb-false}
 use Rattle.mote_base.specs.Files.{Named, held}
 use Rattle.mote_base.specs.Written.{Grows}
@@ -63,7 +64,7 @@ all_whole Missing text a = absurd a
 -- What files other than the first come to: they are images within their limit.
 image_limit : (number : ℕ) → 1 ≤ number → limit_of Run number ≡ limit_of Run 1
 image_limit zero low = absurd (omega (arith, low))
-image_limit (suc n) low = refl
+image_limit (suc n) low = ap (λ t. if t then 1048576 else 65536) (eqb-suc-zero n)
 
 images_whole : (number : ℕ) (fs : List Named) (names files : List (List ℕ)) → 1 ≤ number → gathered_from Run number fs names ≡ Whole files → AreImages fs names files
 images_whole number fs [] [] low e = tt
