@@ -20,7 +20,7 @@ const STORES: &[u8] = b"SOSM\x01\x02\0\x08\0\0\0\0\0\x04\0\xA0\xE0\xB2\xE0\x0C\x
 /// The same module stores to the byte behind its state: E0A8 E0B2 920C 9508.
 const PASSES: &[u8] = b"SOSM\x01\x02\0\x08\0\0\0\0\0\x04\0\xA8\xE0\xB2\xE0\x0C\x92\x08\x95";
 
-/// The same with id 3, and a state of its own.
+/// Module 3 has the same code, which stores to its own state where that lies behind the other's.
 const STORES_NEXT: &[u8] = b"SOSM\x01\x03\0\x08\0\0\0\0\0\x04\0\xA8\xE0\xB2\xE0\x0C\x92\x08\x95";
 
 /// Module 2 says byte 66 at each message: E482 940E F108 9508.
@@ -96,104 +96,150 @@ fn answer(
 /// A call or put that is never made.
 const NEVER: u32 = 1000;
 
-#[test]
-fn answers_are_the_worked_ones(rt: HostRuntime) -> Result<(), Fail> {
-    let alloc = rt.alloc();
-    let rows: [(&str, &str, &[&[u8]], Status, &str); 17] = [
-        ("run s a", LOAD, &[SAYS], Status::Done, SAID),
-        ("run s a", "", &[SAYS], Status::Done, "0 end idle\n"),
-        ("run", LOAD, &[SAYS], Status::Usage, "mote: usage\n"),
-        ("run s", LOAD, &[SAYS], Status::Usage, "mote: usage\n"),
-        ("run -s a", LOAD, &[SAYS], Status::Usage, "mote: usage\n"),
-        (
-            "run s a",
-            LOAD,
-            &[UNBUILT],
-            Status::Refused,
-            "refused unbuilt\n",
-        ),
-        (
-            "run s a b",
-            LOAD,
-            &[SAYS, UNBUILT],
-            Status::Refused,
-            "refused unbuilt\n",
-        ),
-        (
-            "run s a",
-            LOAD,
-            &[STRAYS],
-            Status::Done,
-            "0 load 2 0 0000\n0 run 2 0 0\n0 fault store 2 0 0000\n0 unload 2\n1 end idle\n",
-        ),
-        (
-            "run s a",
-            LOAD,
-            &[STORES],
-            Status::Done,
-            "0 load 2 0 0200\n0 run 2 0 0\n3 done 2\n4 end idle\n",
-        ),
-        (
-            "run s a",
-            LOAD,
-            &[PASSES],
-            Status::Done,
-            "0 load 2 0 0200\n0 run 2 0 0\n2 fault store 2 2 0208\n2 unload 2\n3 end idle\n",
-        ),
-        (
-            "run s a b",
-            "0 load 0\n0 load 1\n",
-            &[STORES, STORES_NEXT],
-            Status::Done,
-            "0 load 2 0 0200\n0 run 2 0 0\n3 done 2\n4 load 3 1 0208\n4 run 3 0 0\n7 done 3\n8 end idle\n",
-        ),
-        (
-            "run s a b",
-            "0 load 0\n0 load 1\n0 unload 1\n",
-            &[SAYS_EACH, POSTS],
-            Status::Done,
-            "0 load 2 0 0000\n0 run 2 0 0\n1 say 2 66\n2 done 2\n\
+/// A run: the words, the script, the images, and what is answered.
+struct Row {
+    words: &'static str,
+    script: &'static str,
+    images: &'static [&'static [u8]],
+    status: Status,
+    text: &'static str,
+}
+
+const ROWS: &[Row] = &[
+    Row {
+        words: "run s a",
+        script: LOAD,
+        images: &[SAYS],
+        status: Status::Done,
+        text: SAID,
+    },
+    Row {
+        words: "run s a",
+        script: "",
+        images: &[SAYS],
+        status: Status::Done,
+        text: "0 end idle\n",
+    },
+    Row {
+        words: "run",
+        script: LOAD,
+        images: &[SAYS],
+        status: Status::Usage,
+        text: "mote: usage\n",
+    },
+    Row {
+        words: "run s",
+        script: LOAD,
+        images: &[SAYS],
+        status: Status::Usage,
+        text: "mote: usage\n",
+    },
+    Row {
+        words: "run -s a",
+        script: LOAD,
+        images: &[SAYS],
+        status: Status::Usage,
+        text: "mote: usage\n",
+    },
+    Row {
+        words: "run s a",
+        script: LOAD,
+        images: &[UNBUILT],
+        status: Status::Refused,
+        text: "refused unbuilt\n",
+    },
+    Row {
+        words: "run s a b",
+        script: LOAD,
+        images: &[SAYS, UNBUILT],
+        status: Status::Refused,
+        text: "refused unbuilt\n",
+    },
+    Row {
+        words: "run s a",
+        script: LOAD,
+        images: &[STRAYS],
+        status: Status::Done,
+        text: "0 load 2 0 0000\n0 run 2 0 0\n0 fault store 2 0 0000\n0 unload 2\n1 end idle\n",
+    },
+    Row {
+        words: "run s a",
+        script: LOAD,
+        images: &[STORES],
+        status: Status::Done,
+        text: "0 load 2 0 0200\n0 run 2 0 0\n3 done 2\n4 end idle\n",
+    },
+    Row {
+        words: "run s a",
+        script: LOAD,
+        images: &[PASSES],
+        status: Status::Done,
+        text: "0 load 2 0 0200\n0 run 2 0 0\n2 fault store 2 2 0208\n2 unload 2\n3 end idle\n",
+    },
+    Row {
+        words: "run s a b",
+        script: "0 load 0\n0 load 1\n",
+        images: &[STORES, STORES_NEXT],
+        status: Status::Done,
+        text: "0 load 2 0 0200\n0 run 2 0 0\n3 done 2\n4 load 3 1 0208\n4 run 3 0 0\n7 done 3\n8 end idle\n",
+    },
+    Row {
+        words: "run s a b",
+        script: "0 load 0\n0 load 1\n0 unload 1\n",
+        images: &[SAYS_EACH, POSTS],
+        status: Status::Done,
+        text: "0 load 2 0 0000\n0 run 2 0 0\n1 say 2 66\n2 done 2\n\
             3 load 1 1 0000\n3 run 1 0 0\n7 done 1\n\
             8 run 1 1 0\n12 done 1\n12 unload 1\n13 end idle\n",
-        ),
-        (
-            "run s a b",
-            "0 load 0\n0 load 1\n9 unload 1\n",
-            &[SAYS_EACH, POSTS],
-            Status::Done,
-            "0 load 2 0 0000\n0 run 2 0 0\n1 say 2 66\n2 done 2\n\
+    },
+    Row {
+        words: "run s a b",
+        script: "0 load 0\n0 load 1\n9 unload 1\n",
+        images: &[SAYS_EACH, POSTS],
+        status: Status::Done,
+        text: "0 load 2 0 0000\n0 run 2 0 0\n1 say 2 66\n2 done 2\n\
             3 load 1 1 0000\n3 run 1 0 0\n7 done 1\n\
             8 run 2 9 1\n9 say 2 66\n10 done 2\n\
             11 run 1 1 0\n15 done 1\n15 unload 1\n16 end idle\n",
-        ),
-        (
-            "run s a",
-            "0 load 0\n0 load 0\n",
-            &[SAYS],
-            Status::Done,
-            "0 load 1 0 0000\n0 run 1 0 0\n1 say 1 65\n2 done 1\n3 refused 0 4 0 0 0\n3 end idle\n",
-        ),
-        (
-            "run s a b c d e f g h",
-            EIGHT_LOADS,
-            RETURNS,
-            Status::Done,
-            SEVEN_LOADED,
-        ),
-        (
-            "run s a",
-            "0 unload 9\n",
-            &[SAYS],
-            Status::Done,
-            "0 absent 9\n0 end idle\n",
-        ),
-        ("run s x", LOAD, &[SAYS], Status::ReadFault, ""),
-    ];
-    for (line, script, images, status, text) in rows {
-        let mut shelf = shelf_with(alloc, script.as_bytes(), images, NEVER)?;
+    },
+    Row {
+        words: "run s a",
+        script: "0 load 0\n0 load 0\n",
+        images: &[SAYS],
+        status: Status::Done,
+        text: "0 load 1 0 0000\n0 run 1 0 0\n1 say 1 65\n2 done 1\n3 refused 0 4 0 0 0\n3 end idle\n",
+    },
+    Row {
+        words: "run s a b c d e f g h",
+        script: EIGHT_LOADS,
+        images: RETURNS,
+        status: Status::Done,
+        text: SEVEN_LOADED,
+    },
+    Row {
+        words: "run s a",
+        script: "0 unload 9\n",
+        images: &[SAYS],
+        status: Status::Done,
+        text: "0 absent 9\n0 end idle\n",
+    },
+    Row {
+        words: "run s x",
+        script: LOAD,
+        images: &[SAYS],
+        status: Status::ReadFault,
+        text: "",
+    },
+];
+
+#[test]
+fn answers_are_the_worked_ones(rt: HostRuntime) -> Result<(), Fail> {
+    let alloc = rt.alloc();
+    for row in ROWS {
+        let mut shelf = shelf_with(alloc, row.script.as_bytes(), row.images, NEVER)?;
         let mut out = MemSink::new(alloc, 1000, vec![in alloc]?)?;
-        assert_eq!(rt; answer(alloc, line, &mut shelf, &mut out)?, status);
-        assert_eq!(rt; out.bytes(), text.as_bytes());
+        assert_eq!(rt; answer(alloc, row.words, &mut shelf, &mut out)?, row.status);
+        assert_eq!(rt; out.bytes(), row.text.as_bytes());
     }
     Ok(())
 }
