@@ -1,4 +1,4 @@
-use Rattle.std.proofs.Common.{◌≡◌, ◌∙◌, sym, ap, false, rules}
+use Rattle.std.proofs.Common.{◌≡◌, false, rules}
 use Rattle.std.specs.Prelude.{is_some}
 use Rattle.domain_model.specs.Image.{prepared}
 use Rattle.mote_sim.proofs.Images.{not_loadable}
