@@ -9,12 +9,13 @@ use Rattle.domain_model.specs.Command.{Command}
 use Rattle.mote_sim.specs.Clauses.{WritesRun, Refuses, HasStatus, WritesFront}
 use Rattle.mote_sim.specs.Ending.{Ends, Answered, CutOff, IsAnswer}
 use Rattle.mote_sim.specs.Outcome.{outcome, AnswersOver, usage_line}
+use Rattle.mote_sim.proofs.Counts.{HasItsFiles}
 use Rattle.mote_sim.proofs.Inversion.{over_told, writes_run, usage_answers, refuses, has_status}
 
-pub headline : {K : Type 0} (w : K → Option (List ℕ)) (f : K → ℕ) (l : K → List ℕ → Bool → K → Type 0) (a b : K) (m n : ℕ) (files : Option (List Named)) (command : Option Command) (s : Status) → Ends w f l a b m n (AnswersOver files command) s → s ≡ Done → (fs : List Named) (before : List ℕ) → files ≡ Some fs → w a ≡ Some before → WritesRun command fs before (w b)
-headline w f l a b m n files command s ends is fs before told known =
+pub headline : {K : Type 0} (w : K → Option (List ℕ)) (f : K → ℕ) (l : K → List ℕ → Bool → K → Type 0) (a b : K) (m n : ℕ) (files : Option (List Named)) (command : Option Command) (s : Status) → ((c : Command) → command ≡ Some c → HasItsFiles c) → Ends w f l a b m n (AnswersOver files command) s → s ≡ Done → (fs : List Named) (before : List ℕ) → files ≡ Some fs → w a ≡ Some before → WritesRun command fs before (w b)
+headline w f l a b m n files command s few ends is fs before told known =
     let e = subst (λ r. Ends w f l a b m n (AnswersOver files command) r) is ends in
-    writes_run command fs e.text before (w b) (over_told files command fs Done e.text told e.answer) (e.wrote.grows before known)
+    writes_run command fs e.text before (w b) few (over_told files command fs Done e.text told e.answer) (e.wrote.grows before known)
 
 pub usage : {K : Type 0} (w : K → Option (List ℕ)) (f : K → ℕ) (l : K → List ℕ → Bool → K → Type 0) (a b : K) (m n : ℕ) (files : Option (List Named)) (command : Option Command) (s : Status) → Ends w f l a b m n (AnswersOver files command) s → s ≡ Usage → (command ≡ None) × Grows (w a) (w b) usage_line
 usage w f l a b m n files command s ends is =

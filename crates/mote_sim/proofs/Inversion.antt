@@ -1,6 +1,6 @@
 -- What an answer says of the files and of the words.
-use Rattle.std.proofs.Common.{◌≡◌, ◌∙◌, ℕ, ◌≤◌, refl, sym, ap, subst, Bool, true, false, nat_lt, if◌then◌else◌, List, [], ◌∷◌, ◌++◌, length, Option, Some, None}
-use Rattle.std.specs.Prelude.{IsSome}
+use Rattle.std.proofs.Common.{◌≡◌, ◌∙◌, ℕ, zero, suc, ◌+◌, ◌≤◌, refl, sym, ap, subst, arith, Bool, true, false, nat_lt, if◌then◌else◌, List, [], ◌∷◌, ◌++◌, length, Option, Some, None}
+use Rattle.std.proofs.Math.Dec.{eqb-suc-zero}
 use Rattle.std.proofs.lemmas.Bool.{ltb-false}
 use Rattle.mote_base.specs.Files.{Named, held}
 use Rattle.mote_base.specs.Written.{Grows}
@@ -10,13 +10,14 @@ use Rattle.domain_model.specs.declared.event.Event.{Event}
 use Rattle.domain_model.specs.declared.request.Kind.{Kind}
 use Rattle.domain_model.specs.declared.request.Kind.TheVariants.{Run}
 use Rattle.domain_model.specs.Command.{Command, limit_of}
-use Rattle.domain_model.specs.Image.{Module, prepared}
 use Rattle.domain_model.specs.Script.{events_of}
 use Rattle.domain_model.specs.State.{Input}
-use Rattle.mote_sim.specs.Clauses.{WritesRun, Refuses, HasStatus}
+use Rattle.mote_sim.specs.Clauses.{AreImages, WritesRun, Refuses, HasStatus}
 use Rattle.mote_sim.specs.Outcome.{Outcome, NoCommand, Unheld, TooLong, Unbuilt, Runs, outcome, outcome_of, outcome_by, outcome_with, Answers, MayFind, AnswersOver, usage_line}
 use Rattle.mote_sim.specs.Reading.{Gathered, Whole, Longer, Missing, gathered_from, gathered_file, with_first}
-use Rattle.mote_sim.specs.Trace.{IsTraceOf, run_input, input_with, input_of}
+use Rattle.mote_sim.specs.Trace.{IsTraceOf, run_input, are_loadable, input_with, input_of}
+use Rattle.mote_sim.proofs.Counts.{HasItsFiles, one_at_least, most_64}
+use Rattle.mote_sim.proofs.Images.{each_loadable}
 
 -- Where the shelf tells its files, what answers over the shelf answers for them.
 found_is : (files : Option (List Named)) (command : Option Command) (fs : List Named) (found : Outcome) → files ≡ Some fs → MayFind files command found → found ≡ outcome command fs
@@ -60,70 +61,67 @@ all_whole (Whole files) text a = record { files = files; is = refl; answer = a }
 all_whole (Longer n) text a = let e : Done ≡ Refused = a.0 in absurd (cc)
 all_whole Missing text a = absurd a
 
+-- What files other than the first come to: they are images within their limit.
+image_limit : (number : ℕ) → 1 ≤ number → limit_of Run number ≡ limit_of Run 1
+image_limit zero low = absurd (omega (arith, low))
+image_limit (suc n) low = ap (λ t. if t then 1048576 else 65536) (eqb-suc-zero n)
+
+images_whole : (number : ℕ) (fs : List Named) (names files : List (List ℕ)) → 1 ≤ number → gathered_from Run number fs names ≡ Whole files → AreImages fs names files
+images_whole number fs [] [] low e = tt
+images_whole number fs [] (file ∷ files) low e = absurd (cc)
+images_whole number fs (name ∷ names) files low e =
+    let one = first_of number (limit_of Run number) (held fs name) (gathered_from Run (number + 1) fs names) files e in
+    let others = images_whole (number + 1) fs names one.rest (omega (arith, low)) one.others_are in
+    subst (AreImages fs (name ∷ names)) (sym one.files_are)
+    (one.held, subst (λ limit. length one.bytes ≤ limit) (image_limit number low) one.fits, others)
+
 -- An input that is run is built.
-record Built (image : List ℕ) (events : Option (List Event)) (found : Option Module) (text : List ℕ) : Type 0 where
+record Built (images : List (List ℕ)) (events : Option (List Event)) (loadable : Bool) (text : List ℕ) : Type 0 where
   pub list : List Event
   pub events_are : events ≡ Some list
-  pub loadable : IsSome found
-  pub trace : IsTraceOf (run_input image list) text
+  pub all : loadable ≡ true
+  pub trace : IsTraceOf (run_input images list) text
 
-built : (image : List ℕ) (events : Option (List Event)) (found : Option Module) (text : List ℕ) → Answers (outcome_with (input_with image events found)) Done text → Built image events found text
-built image None found text a = let e : Done ≡ Refused = a.0 in absurd (cc)
-built image (Some list) None text a = let e : Done ≡ Refused = a.0 in absurd (cc)
-built image (Some list) (Some m) text a = record { list = list; events_are = refl; loadable = refl; trace = a.1 }
+built : (images : List (List ℕ)) (events : Option (List Event)) (loadable : Bool) (text : List ℕ) → Answers (outcome_with (input_with images events loadable)) Done text → Built images events loadable text
+built images None loadable text a = let e : Done ≡ Refused = a.0 in absurd (cc)
+built images (Some list) false text a = let e : Done ≡ Refused = a.0 in absurd (cc)
+built images (Some list) true text a = record { list = list; events_are = refl; all = refl; trace = a.1 }
 
-by_two : (files : List (List ℕ)) (script image : List ℕ) (text : List ℕ) → files ≡ script ∷ image ∷ [] → Answers (outcome_by Run files) Done text → Built image (events_of script) (prepared image) text
-by_two files script image text is a = built image (events_of script) (prepared image) text (subst (λ xs. Answers (outcome_by Run xs) Done text) is a)
+built_from : (files images : List (List ℕ)) (script text : List ℕ) → files ≡ script ∷ images → Answers (outcome_by Run files) Done text → Built images (events_of script (length images)) (are_loadable images) text
+built_from files images script text is a =
+    built images (events_of script (length images)) (are_loadable images) text (subst (λ xs. Answers (outcome_by Run xs) Done text) is a)
 
-by_other : (files other : List (List ℕ)) (text : List ℕ) → files ≡ other → outcome_by Run other ≡ Unheld → Answers (outcome_by Run files) Done text → ⊥
-by_other files other text is none a = subst (λ found. Answers found Done text) none (subst (λ xs. Answers (outcome_by Run xs) Done text) is a)
-
-run_of : (fs : List Named) (names : List (List ℕ)) (text before : List ℕ) (new : Option (List ℕ)) → Answers (outcome_of Run (gathered_from Run 0 fs names)) Done text → new ≡ Some (before ++ text) → WritesRun (Some (record { kind = Run; files = names })) fs before new
-run_of fs [] text before new a written = absurd a
-run_of fs (s ∷ []) text before new a written =
-    let w = all_whole (gathered_from Run 0 fs (s ∷ [])) text a in
-    let one = first_of 0 (limit_of Run 0) (held fs s) (Whole []) w.files w.is in
-    let none : one.rest ≡ [] = let e : Whole [] ≡ Whole one.rest = one.others_are in cc in
-    absurd (by_other w.files (one.bytes ∷ []) text (one.files_are ∙ ap (λ xs. one.bytes ∷ xs) none) refl w.answer)
-run_of fs (s ∷ i ∷ []) text before new a written =
-    let w = all_whole (gathered_from Run 0 fs (s ∷ i ∷ [])) text a in
-    let one = first_of 0 (limit_of Run 0) (held fs s) (gathered_from Run 1 fs (i ∷ [])) w.files w.is in
-    let two = first_of 1 (limit_of Run 1) (held fs i) (Whole []) one.rest one.others_are in
-    let none : two.rest ≡ [] = let e : Whole [] ≡ Whole two.rest = two.others_are in cc in
-    let both : w.files ≡ one.bytes ∷ two.bytes ∷ [] = one.files_are ∙ ap (λ xs. one.bytes ∷ xs) (two.files_are ∙ ap (λ xs. two.bytes ∷ xs) none) in
-    let b = by_two w.files one.bytes two.bytes text both w.answer in
+run_of : (fs : List Named) (names : List (List ℕ)) (text before : List ℕ) (new : Option (List ℕ)) → HasItsFiles (record { kind = Run; files = names }) → Answers (outcome_of Run (gathered_from Run 0 fs names)) Done text → new ≡ Some (before ++ text) → WritesRun (Some (record { kind = Run; files = names })) fs before new
+run_of fs [] text before new few a written = absurd a
+run_of fs (s ∷ names) text before new few a written =
+    let w = all_whole (gathered_from Run 0 fs (s ∷ names)) text a in
+    let one = first_of 0 (limit_of Run 0) (held fs s) (gathered_from Run 1 fs names) w.files w.is in
+    let b = built_from w.files one.rest one.bytes text one.files_are w.answer in
     record {
       script_name = s;
-      image_name = i;
+      image_names = names;
       command_is = refl;
+      least = one_at_least (length names) few;
+      most = most_64 (length names) few;
       script = one.bytes;
-      image = two.bytes;
       script_held = one.held;
-      image_held = two.held;
       script_fits = one.fits;
-      image_fits = two.fits;
+      images = one.rest;
+      images_are = images_whole 1 fs names one.rest (omega arith) one.others_are;
       events = b.list;
       events_are = b.events_are;
-      loadable = b.loadable;
+      loadable = each_loadable one.rest b.all;
       lines = b.trace.lines;
       run = b.trace.run;
       written = written ∙ ap (λ t. Some (before ++ t)) b.trace.spelled;
     }
-run_of fs (s ∷ i ∷ j ∷ names) text before new a written =
-    let w = all_whole (gathered_from Run 0 fs (s ∷ i ∷ j ∷ names)) text a in
-    let one = first_of 0 (limit_of Run 0) (held fs s) (gathered_from Run 1 fs (i ∷ j ∷ names)) w.files w.is in
-    let two = first_of 1 (limit_of Run 1) (held fs i) (gathered_from Run 2 fs (j ∷ names)) one.rest one.others_are in
-    let three = first_of 2 (limit_of Run 2) (held fs j) (gathered_from Run 3 fs names) two.rest two.others_are in
-    let all : w.files ≡ one.bytes ∷ two.bytes ∷ three.bytes ∷ three.rest =
-    one.files_are ∙ ap (λ xs. one.bytes ∷ xs) (two.files_are ∙ ap (λ xs. two.bytes ∷ xs) three.files_are) in
-    absurd (by_other w.files (one.bytes ∷ two.bytes ∷ three.bytes ∷ three.rest) text all refl w.answer)
 
-of_kind : (kind : Kind) (fs : List Named) (names : List (List ℕ)) (text before : List ℕ) (new : Option (List ℕ)) → Answers (outcome_of kind (gathered_from kind 0 fs names)) Done text → new ≡ Some (before ++ text) → WritesRun (Some (record { kind = kind; files = names })) fs before new
-of_kind Run fs names text before new a written = run_of fs names text before new a written
+of_kind : (kind : Kind) (fs : List Named) (names : List (List ℕ)) (text before : List ℕ) (new : Option (List ℕ)) → HasItsFiles (record { kind = kind; files = names }) → Answers (outcome_of kind (gathered_from kind 0 fs names)) Done text → new ≡ Some (before ++ text) → WritesRun (Some (record { kind = kind; files = names })) fs before new
+of_kind Run fs names text before new few a written = run_of fs names text before new few a written
 
-pub writes_run : (command : Option Command) (fs : List Named) (text before : List ℕ) (new : Option (List ℕ)) → Answers (outcome command fs) Done text → new ≡ Some (before ++ text) → WritesRun command fs before new
-writes_run None fs text before new a written = let e : Done ≡ Usage = a.0 in absurd (cc)
-writes_run (Some c) fs text before new a written = of_kind c.kind fs c.files text before new a written
+pub writes_run : (command : Option Command) (fs : List Named) (text before : List ℕ) (new : Option (List ℕ)) → ((c : Command) → command ≡ Some c → HasItsFiles c) → Answers (outcome command fs) Done text → new ≡ Some (before ++ text) → WritesRun command fs before new
+writes_run None fs text before new few a written = let e : Done ≡ Usage = a.0 in absurd (cc)
+writes_run (Some c) fs text before new few a written = of_kind c.kind fs c.files text before new (few c refl) a written
 
 -- Usage answers no command alone.
 usage_outcome : (found : Outcome) (text : List ℕ) → Answers found Usage text → (found ≡ NoCommand) × (text ≡ usage_line)
@@ -139,9 +137,7 @@ with_is_command (Some i) e = cc
 
 by_is_command : (kind : Kind) (files : List (List ℕ)) → outcome_by kind files ≡ NoCommand → ⊥
 by_is_command Run [] e = cc
-by_is_command Run (s ∷ []) e = cc
-by_is_command Run (s ∷ i ∷ []) e = with_is_command (input_of s i) e
-by_is_command Run (s ∷ i ∷ j ∷ files) e = cc
+by_is_command Run (script ∷ images) e = with_is_command (input_of script images) e
 
 is_command : (kind : Kind) (found : Gathered) → outcome_of kind found ≡ NoCommand → ⊥
 is_command kind (Whole files) e = by_is_command kind files e

@@ -3,6 +3,8 @@ pub mod Clauses
 pub mod Ends
 pub mod Far
 pub mod Gather
+pub mod Images
+pub mod Counts
 pub mod Inversion
 pub mod Prepared
 pub mod Admitted

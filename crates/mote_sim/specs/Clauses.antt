@@ -1,5 +1,6 @@
 -- What the clauses of the top call say.
-use Rattle.std.specs.Prelude.{◌≡◌, ℕ, ◌≤◌, List, [], ◌∷◌, ◌++◌, length, Option, Some, IsSome}
+use Rattle.std.specs.Prelude.{◌≡◌, ℕ, ◌≤◌, List, [], ◌∷◌, ◌++◌, length, Option, Some, IsSome, ⊤}
+use Rattle.std.specs.List.{AllByRecursion}
 use Rattle.mote_base.specs.Files.{Named, held}
 use Rattle.mote_base.specs.Written.{Grows, IsStartOf}
 use Rattle.mote_base.specs.declared.fault.Status.{Status}
@@ -14,23 +15,33 @@ use Rattle.domain_model.specs.Text.{texts}
 use Rattle.mote_sim.specs.Outcome.{Outcome, NoCommand, Unheld, TooLong, Unbuilt, Runs, Answers, size_line, unbuilt_line}
 use Rattle.mote_sim.specs.Trace.{IsLawfulRun, run_input}
 
--- The words are `run` with a script and an image. Each was read whole and is within its limit, the script has
--- events, the image can be loaded, and the bytes that were added are the text of a lawful run of them.
+-- These are the bytes of the images of these names: each image is held, and within the limit of an image.
+abbrev pub AreImages : List Named → List (List ℕ) → List (List ℕ) → Type 0
+AreImages files [] [] = ⊤
+AreImages files [] (image ∷ images) = ⊥
+AreImages files (name ∷ names) [] = ⊥
+AreImages files (name ∷ names) (image ∷ images) =
+    (held files name ≡ Some image) × (length image ≤ limit_of kind.Run 1) × AreImages files names images
+
+-- The words are `run` with a script and 1 to 64 images. Each file was read whole and is within its limit, the
+-- script has events, each image can be loaded, and the bytes that were added are the text of a lawful run of
+-- them.
 pub record WritesRun (command : Option Command) (files : List Named) (before : List ℕ) (new : Option (List ℕ)) : Type 0 where
   pub script_name : List ℕ
-  pub image_name : List ℕ
-  pub command_is : command ≡ Some (record { kind = kind.Run; files = script_name ∷ image_name ∷ [] })
+  pub image_names : List (List ℕ)
+  pub command_is : command ≡ Some (record { kind = kind.Run; files = script_name ∷ image_names })
+  pub least : 1 ≤ length image_names
+  pub most : length image_names ≤ 64
   pub script : List ℕ
-  pub image : List ℕ
   pub script_held : held files script_name ≡ Some script
-  pub image_held : held files image_name ≡ Some image
   pub script_fits : length script ≤ limit_of kind.Run 0
-  pub image_fits : length image ≤ limit_of kind.Run 1
+  pub images : List (List ℕ)
+  pub images_are : AreImages files image_names images
   pub events : List Event
-  pub events_are : events_of script ≡ Some events
-  pub loadable : IsSome (prepared image)
+  pub events_are : events_of script (length images) ≡ Some events
+  pub loadable : AllByRecursion (λ image. IsSome (prepared image)) images
   pub lines : List TraceLine
-  pub run : IsLawfulRun (run_input image events) lines
+  pub run : IsLawfulRun (run_input images events) lines
   pub written : new ≡ Some (before ++ texts lines)
 
 -- Why the command refuses its files, and the line that says so.

@@ -11,7 +11,7 @@ use Rattle.mote_sim.specs.Reading.{Gathered, Whole, Longer, Missing, gathered}
 use Rattle.mote_sim.specs.Trace.{IsTraceOf, input_of}
 
 -- The words are no command; a file of the command isn't held; the file with that number is longer than its
--- limit; the script or the image is not built; or this input is run.
+-- limit; the script or an image is not built; or this input is run.
 pub data Outcome : Type 0 where
   NoCommand : Outcome
   Unheld : Outcome
@@ -23,10 +23,10 @@ abbrev pub outcome_with : Option Input → Outcome
 outcome_with None = Unbuilt
 outcome_with (Some i) = Runs i
 
--- By the bytes of a command's files. (No command has another number of files.)
+-- By the bytes of a command's files: of `run` a script and its images. (No command is without files.)
 abbrev pub outcome_by : Kind → List (List ℕ) → Outcome
-outcome_by Run (script ∷ image ∷ []) = outcome_with (input_of script image)
-outcome_by _ _ = Unheld
+outcome_by Run (script ∷ images) = outcome_with (input_of script images)
+outcome_by Run [] = Unheld
 
 -- The size comes before all that the bytes say.
 abbrev pub outcome_of : Kind → Gathered → Outcome

@@ -1,11 +1,15 @@
 -- What putting the lines of a run comes to.
-use Rattle.std.specs.Prelude.{◌≡◌, ℕ, Bool, List, Option, Some, None, Result, OnOk, OnErr, ⊤}
+use Rattle.std.specs.Prelude.{◌≡◌, ℕ, Bool, true, false, List, map, Option, Some, None, Result, OnOk, OnErr, Vec, ⊤}
+use Rattle.std.specs.List.{AllByRecursion}
+use Rattle.std.specs.declared.alloc.Global.{Global}
 use Rattle.mote_base.specs.Written.{Wrote, Broke}
 use Rattle.domain_model.specs.declared.line.TraceLine.{TraceLine}
-use Rattle.domain_model.specs.Good.{Good}
+use Rattle.domain_model.specs.Good.{Good, IsGoodImage}
+use Rattle.domain_model.specs.Image.{Module, prepared}
 use Rattle.domain_model.specs.Laws.{LawfulRunFrom}
 use Rattle.domain_model.specs.State.{State, Input, start}
 use Rattle.domain_model.specs.Text.{texts}
+use Rattle.mote_sim.specs.Trace.{are_loadable}
 
 -- The lines of a lawful run from that state were put.
 pub record Played {K : Type 0} (written : K → Option (List ℕ)) (faults : K → ℕ) (leads : K → List ℕ → Bool → K → Type 0) (old new : K) (first : State) : Type 0 where
@@ -22,6 +26,12 @@ pub record Stopped {K : Type 0} (written : K → Option (List ℕ)) (faults : K 
 pub record Plays {K T E : Type 0} (written : K → Option (List ℕ)) (faults : K → ℕ) (leads : K → List ℕ → Bool → K → Type 0) (old new : K) (first : State) (result : Result T E) : Type 0 where
   pub played : OnOk result (Played written faults leads old new first)
   pub stopped : OnErr result (Stopped written faults leads old new first)
+
+-- The images of these bytes are ready exactly where each of them can be loaded.
+abbrev pub AreReady : Option (Vec (Option Module) Global) → List (List ℕ) → Type 0
+AreReady None images = are_loadable images ≡ false
+AreReady (Some ready) images =
+    (are_loadable images ≡ true) × (ready.items ≡ map prepared images) × AllByRecursion IsGoodImage ready.items
 
 -- There is a mote exactly where there is an input, and it stands at the start of a run of it.
 abbrev pub StandsAt : Option State → Option Input → Type 0

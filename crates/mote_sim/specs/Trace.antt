@@ -1,28 +1,34 @@
 -- The traces of a run.
-use Rattle.std.specs.Prelude.{◌≡◌, ℕ, List, [], ◌∷◌, Option, Some, None}
+use Rattle.std.specs.Prelude.{◌≡◌, ℕ, List, length, Bool, true, false, Option, Some, None, is_some}
+use Rattle.std.specs.List.{list_all}
 use Rattle.mote_layout.specs.Limits.{default_units, default_handler_units}
 use Rattle.domain_model.specs.declared.event.Event.{Event}
 use Rattle.domain_model.specs.declared.line.TraceLine.{TraceLine}
-use Rattle.domain_model.specs.Image.{Module, prepared}
+use Rattle.domain_model.specs.Image.{prepared}
 use Rattle.domain_model.specs.Laws.{LawfulRunFrom}
 use Rattle.domain_model.specs.Script.{events_of}
 use Rattle.domain_model.specs.State.{Input}
 use Rattle.domain_model.specs.Text.{texts}
 use Rattle.domain_model.specs.Turn.{Run}
 
--- What `run` gives the machine: the bytes of the image, the events of the script, and the two budgets.
-abbrev pub run_input : List ℕ → List Event → Input
-run_input image events =
-    record { images = image ∷ []; events = events; unit_limit = default_units; handler_limit = default_handler_units }
+-- What `run` gives the machine: the bytes of the images, the events of the script, and the two budgets.
+abbrev pub run_input : List (List ℕ) → List Event → Input
+run_input images events =
+    record { images = images; events = events; unit_limit = default_units; handler_limit = default_handler_units }
 
-abbrev pub input_with : List ℕ → Option (List Event) → Option Module → Option Input
-input_with image None found = None
-input_with image (Some events) None = None
-input_with image (Some events) (Some m) = Some (run_input image events)
+-- each image can be loaded
+abbrev pub are_loadable : List (List ℕ) → Bool
+are_loadable images = list_all (λ image. is_some (prepared image)) images
 
--- The input that the bytes of a script and of an image make, where both are built.
-abbrev pub input_of : List ℕ → List ℕ → Option Input
-input_of script image = input_with image (events_of script) (prepared image)
+abbrev pub input_with : List (List ℕ) → Option (List Event) → Bool → Option Input
+input_with images None loadable = None
+input_with images (Some events) false = None
+input_with images (Some events) true = Some (run_input images events)
+
+-- The input that the bytes of a script and of its images make, where all of them are built. The script loads
+-- images by their numbers, so how many there are decides which of its lines are events.
+abbrev pub input_of : List ℕ → List (List ℕ) → Option Input
+input_of script images = input_with images (events_of script (length images)) (are_loadable images)
 
 -- The lines of a run of the machine, of which each turn is lawful.
 pub record IsLawfulRun (i : Input) (lines : List TraceLine) : Type 0 where

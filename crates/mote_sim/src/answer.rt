@@ -1,13 +1,13 @@
 //! The top call.
-ghost use Rattle.std.specs.Prelude.{◌≡◌, ◌≤◌, ◌⊎◌, IfOk, length, Some, None, List, ℕ};
+ghost use Rattle.std.specs.Prelude.{◌≡◌, ◌≤◌, ◌⊎◌, IfOk, IsTrue, length, Some, None, List, ℕ};
 ghost use Rattle.mote_base.specs.Causes.{Rose};
 ghost use Rattle.mote_base.specs.Files.{Named};
 ghost use Rattle.mote_base.specs.Written.{Grows};
-ghost use Rattle.domain_model.specs.Command.{command_of, operands};
+ghost use Rattle.domain_model.specs.Command.{command_of, takes};
 ghost use Rattle.mote_sim.specs.Clauses.{WritesRun, Refuses, HasStatus, WritesFront};
 ghost use Rattle.mote_sim.specs.Ending.{Ends, IsAnswer, Answered, CutOff};
 ghost use Rattle.mote_sim.specs.Outcome.{NoCommand, TooLong, Unbuilt, Answers, AnswersOver, outcome, outcome_by, outcome_with, usage_line, size_line};
-ghost use Rattle.mote_sim.specs.Playing.{StandsAt};
+ghost use Rattle.mote_sim.specs.Playing.{AreReady, StandsAt};
 ghost use Rattle.mote_sim.specs.Reading.{Admits, AdmitsEach, bytes_of};
 ghost use Rattle.mote_sim.specs.Trace.{input_of};
 
@@ -45,19 +45,33 @@ fn put_size<K: Sink>(out: &mut K, number: usize) -> Status
     put_answer(out, line.as_slice(), Status::Refused)
 }
 
-// A mote at the start of the run of a script and an image, where both are built.
-fn prepare(alloc: Global, script: &[u8], image: &[u8]) -> Result<Option<Mote>, NoMemory>
-    ensures { IfOk result (λ found. StandsAt found (input_of script.now image.now)) }
+// The images of these files, prepared for their loads, where each of them can be loaded.
+fn prepare_images(alloc: Global, files: &[Vec<u8>]) -> Result<Option<Vec<Ready>>, NoMemory>
+    ensures { IfOk result (λ found. AreReady found (bytes_of files.now)) }
 {
-    let script = match parse_script(alloc, script)? {
+    let mut images = Vec::new(alloc);
+    for file in files {
+        let image = Ready::new(alloc, file)?;
+        if !image.can_be_loaded() {
+            return Ok(None);
+        }
+        images.push(image)?;
+    }
+    Ok(Some(images))
+}
+
+// A mote at the start of the run of a script over its images, where all are built.
+fn prepare(alloc: Global, script: &[u8], images: &[Vec<u8>]) -> Result<Option<Mote>, NoMemory>
+    ensures { IfOk result (λ found. StandsAt found (input_of script.now (bytes_of images.now))) }
+{
+    let script = match parse_script(alloc, script, images.len())? {
         None => return Ok(None),
         Some(script) => script,
     };
-    let image = Ready::new(alloc, image)?;
-    if !image.can_be_loaded() {
-        return Ok(None);
-    }
-    let images = vec![in alloc; image]?;
+    let images = match prepare_images(alloc, images)? {
+        None => return Ok(None),
+        Some(images) => images,
+    };
     let limits = Limits {
         units: DEFAULT_UNITS,
         handler: DEFAULT_HANDLER_UNITS,
@@ -66,11 +80,11 @@ fn prepare(alloc: Global, script: &[u8], image: &[u8]) -> Result<Option<Mote>, N
     Ok(Some(mote))
 }
 
-// Runs a script over an image. All memory is taken before the first line is put.
-fn run<K: Sink>(alloc: Global, script: &[u8], image: &[u8], out: &mut K) -> Status
-    ensures { Ends K.written K.faults K.leads out.old out.new 0 0 (Answers (outcome_with (input_of script.now image.now))) result }
+// Runs a script over its images. All memory is taken before the first line is put.
+fn run<K: Sink>(alloc: Global, script: &[u8], images: &[Vec<u8>], out: &mut K) -> Status
+    ensures { Ends K.written K.faults K.leads out.old out.new 0 0 (Answers (outcome_with (input_of script.now (bytes_of images.now)))) result }
 {
-    let mut mote = match prepare(alloc, script, image) {
+    let mut mote = match prepare(alloc, script, images) {
         Err(_) => return Status::NoMemory,
         Ok(None) => return put_answer(out, b"refused unbuilt\n", Status::Refused),
         Ok(Some(mote)) => mote,
@@ -87,13 +101,13 @@ fn run<K: Sink>(alloc: Global, script: &[u8], image: &[u8], out: &mut K) -> Stat
 
 // Answers a command whose files have been read.
 fn perform<K: Sink>(alloc: Global, kind: Kind, files: &[Vec<u8>], out: &mut K) -> Status
-    requires { length files.now ≡ operands kind }
+    requires { IsTrue (takes kind (length files.now)) }
     ensures { Ends K.written K.faults K.leads out.old out.new 0 0 (Answers (outcome_by kind (bytes_of files.now))) result }
 {
     match kind {
         Kind::Run => match files {
-            [script, image] => run(alloc, script, image, out),
-            _ => unreachable!(),
+            [script, images @ ..] => run(alloc, script, images, out),
+            [] => unreachable!(),
         },
     }
 }
@@ -107,7 +121,7 @@ fn answer_command<F: Shelf, K: Sink>(
     out: &mut K,
 ) -> Status
     requires names { AdmitsEach (F.admits shelf.old) names.now }
-    requires operands { length names.now ≡ operands kind }
+    requires operands { IsTrue (takes kind (length names.now)) }
     ensures { Ends K.written K.faults K.leads out.old out.new (F.faults shelf.old) (F.faults shelf.new)
         (AnswersOver (F.files shelf.old) (Some (record { kind = kind; files = names.now }))) result }
 {
@@ -134,8 +148,8 @@ fn answer<F: Shelf, K: Sink>(alloc: Global, words: &[Word], shelf: &mut F, out: 
 
 /// Does all that the program does: reads the words, reads the files that they name, and writes the answer.
 ///
-/// The words are those behind the program's name. `run SCRIPT IMAGE` runs a script over an image and writes
-/// the trace. All memory is taken before the first byte is written.
+/// The words are those behind the program's name. `run SCRIPT IMAGE..` runs a script over 1 to 64 images, which
+/// it loads and unloads, and writes the trace. All memory is taken before the first byte is written.
 pub fn mote_main<F: Shelf, K: Sink>(
     alloc: Global,
     words: &[Word],
@@ -154,7 +168,7 @@ pub fn mote_main<F: Shelf, K: Sink>(
     ensures usage { result ≡ Status.Usage → (command_of words.now ≡ None) × Grows (K.written out.old) (K.written out.new) usage_line }
     ensures no_command { command_of words.now ≡ None → (result ≡ Status.Usage) ⊎ (result ≡ Status.WriteFault) }
 
-    // Refused: a file is longer than its limit, or the script or the image is not built.
+    // Refused: a file is longer than its limit, or the script or an image is not built.
     ensures refused { result ≡ Status.Refused → (fs : List Named) → F.files shelf.old ≡ Some fs →
         Refuses (outcome (command_of words.now) fs) (K.written out.old) (K.written out.new) }
 

@@ -1,7 +1,7 @@
 //! The top call: it reads the words and the files that they name, and writes the answer.
 //!
 //! `mote_main` is all that the program does, over any shelf of files and any sink. With status Done the bytes
-//! that it added to the sink are the text of a run of the machine of domains over the script and the image,
+//! that it added to the sink are the text of a run of the machine of domains over the script and its images,
 //! and every turn of that run is lawful. Each other status has its cause, and every status says what was
 //! written. The definitions of the answers stand in `specs/`: `Outcome` and `Trace` say what the answer has
 //! to be, `Reading` what the files come to, and `Ending` what each status says of the shelf and of the sink.

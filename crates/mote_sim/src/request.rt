@@ -1,7 +1,7 @@
 //! The words of the command line.
 ghost use Rattle.std.specs.Prelude.{◌≡◌, length};
 ghost use Rattle.std.specs.List.{list_any};
-ghost use Rattle.domain_model.specs.Command.{is_option, kind_of, operands, limit_of, command_of};
+ghost use Rattle.domain_model.specs.Command.{is_option, kind_of, takes, limit_of, command_of};
 ghost use Rattle.mote_sim.specs.Request.{asked, HasItsOperands};
 
 use domain_model::Kind;
@@ -45,12 +45,12 @@ fn kind_of(verb: &Word) -> Option<Kind>
     }
 }
 
-/// How many files a command takes.
-pub fn operands(kind: Kind) -> usize
-    ensures { result ≡ operands kind }
+/// Whether a command takes so many files. `run` takes a script and 1 to 64 images.
+fn takes(kind: Kind, count: usize) -> bool
+    ensures { result ≡ takes kind count }
 {
     match kind {
-        Kind::Run => 2,
+        Kind::Run => (2..=65).contains(&count),
     }
 }
 
@@ -82,7 +82,7 @@ pub fn request_of(words: &[Word]) -> Request<'_>
             match kind_of(verb) {
                 None => Request::Usage,
                 Some(kind) => {
-                    if files.len() == operands(kind) {
+                    if takes(kind, files.len()) {
                         Request::Command(kind, files)
                     } else {
                         Request::Usage

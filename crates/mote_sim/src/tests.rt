@@ -20,22 +20,61 @@ const STORES: &[u8] = b"SOSM\x01\x02\0\x08\0\0\0\0\0\x04\0\xA0\xE0\xB2\xE0\x0C\x
 /// The same module stores to the byte behind its state: E0A8 E0B2 920C 9508.
 const PASSES: &[u8] = b"SOSM\x01\x02\0\x08\0\0\0\0\0\x04\0\xA8\xE0\xB2\xE0\x0C\x92\x08\x95";
 
+/// Module 3 has the same code, which stores to its own state where that lies behind the other's.
+const STORES_NEXT: &[u8] = b"SOSM\x01\x03\0\x08\0\0\0\0\0\x04\0\xA8\xE0\xB2\xE0\x0C\x92\x08\x95";
+
+/// Module 2 says byte 66 at each message: E482 940E F108 9508.
+const SAYS_EACH: &[u8] = b"SOSM\x01\x02\0\0\0\0\0\0\0\x04\0\x82\xE4\x0E\x94\x08\xF1\x08\x95";
+
+/// Module 1 posts a message of type 9 to module 2 at each: E082 E069 E000 940E F103 9508.
+const POSTS: &[u8] =
+    b"SOSM\x01\x01\0\0\0\0\0\0\0\x06\0\x82\xE0\x69\xE0\0\xE0\x0E\x94\x03\xF1\x08\x95";
+
+/// Eight modules that do nothing: 9508.
+const RETURNS: &[&[u8]] = &[
+    b"SOSM\x01\x01\0\0\0\0\0\0\0\x01\0\x08\x95",
+    b"SOSM\x01\x02\0\0\0\0\0\0\0\x01\0\x08\x95",
+    b"SOSM\x01\x03\0\0\0\0\0\0\0\x01\0\x08\x95",
+    b"SOSM\x01\x04\0\0\0\0\0\0\0\x01\0\x08\x95",
+    b"SOSM\x01\x05\0\0\0\0\0\0\0\x01\0\x08\x95",
+    b"SOSM\x01\x06\0\0\0\0\0\0\0\x01\0\x08\x95",
+    b"SOSM\x01\x07\0\0\0\0\0\0\0\x01\0\x08\x95",
+    b"SOSM\x01\x08\0\0\0\0\0\0\0\x01\0\x08\x95",
+];
+
 const LOAD: &str = "0 load 0\n";
 
 const SAID: &str = "0 load 1 0 0000\n0 run 1 0 0\n1 say 1 65\n2 done 1\n3 end idle\n";
 
-/// The shelf holds a script `s` and an image `i`, and fails at the call with that number.
+const EIGHT_LOADS: &str =
+    "0 load 0\n0 load 1\n0 load 2\n0 load 3\n0 load 4\n0 load 5\n0 load 6\n0 load 7\n";
+
+const SEVEN_LOADED: &str = "0 load 1 0 0000\n0 run 1 0 0\n0 done 1\n\
+    1 load 2 1 0000\n1 run 2 0 0\n1 done 2\n\
+    2 load 3 2 0000\n2 run 3 0 0\n2 done 3\n\
+    3 load 4 3 0000\n3 run 4 0 0\n3 done 4\n\
+    4 load 5 4 0000\n4 run 5 0 0\n4 done 5\n\
+    5 load 6 5 0000\n5 run 6 0 0\n5 done 6\n\
+    6 load 7 6 0000\n6 run 7 0 0\n6 done 7\n\
+    7 refused 7 5 0 0 0\n7 end idle\n";
+
+/// The names of the images.
+const NAMES: [&str; 8] = ["a", "b", "c", "d", "e", "f", "g", "h"];
+
+/// The shelf holds a script `s` and images from `a` on, and fails at the call with that number.
 fn shelf_with(
     alloc: Global,
     script: &[u8],
-    image: &[u8],
+    images: &[&[u8]],
     fails: u32,
 ) -> Result<MemShelf, NoMemory> {
-    let script = Vec::from_slice(alloc, script)?;
-    let image = Vec::from_slice(alloc, image)?;
     let mut files = Vec::new(alloc);
+    let script = Vec::from_slice(alloc, script)?;
     files.push((Word::from_text(alloc, "s")?, script))?;
-    files.push((Word::from_text(alloc, "i")?, image))?;
+    for (name, image) in NAMES.iter().zip(images) {
+        let image = Vec::from_slice(alloc, image)?;
+        files.push((Word::from_text(alloc, name)?, image))?;
+    }
     MemShelf::new(alloc, files, vec![in alloc; fails]?)
 }
 
@@ -57,49 +96,150 @@ fn answer(
 /// A call or put that is never made.
 const NEVER: u32 = 1000;
 
+/// A run: the words, the script, the images, and what is answered.
+struct Row {
+    words: &'static str,
+    script: &'static str,
+    images: &'static [&'static [u8]],
+    status: Status,
+    text: &'static str,
+}
+
+const ROWS: &[Row] = &[
+    Row {
+        words: "run s a",
+        script: LOAD,
+        images: &[SAYS],
+        status: Status::Done,
+        text: SAID,
+    },
+    Row {
+        words: "run s a",
+        script: "",
+        images: &[SAYS],
+        status: Status::Done,
+        text: "0 end idle\n",
+    },
+    Row {
+        words: "run",
+        script: LOAD,
+        images: &[SAYS],
+        status: Status::Usage,
+        text: "mote: usage\n",
+    },
+    Row {
+        words: "run s",
+        script: LOAD,
+        images: &[SAYS],
+        status: Status::Usage,
+        text: "mote: usage\n",
+    },
+    Row {
+        words: "run -s a",
+        script: LOAD,
+        images: &[SAYS],
+        status: Status::Usage,
+        text: "mote: usage\n",
+    },
+    Row {
+        words: "run s a",
+        script: LOAD,
+        images: &[UNBUILT],
+        status: Status::Refused,
+        text: "refused unbuilt\n",
+    },
+    Row {
+        words: "run s a b",
+        script: LOAD,
+        images: &[SAYS, UNBUILT],
+        status: Status::Refused,
+        text: "refused unbuilt\n",
+    },
+    Row {
+        words: "run s a",
+        script: LOAD,
+        images: &[STRAYS],
+        status: Status::Done,
+        text: "0 load 2 0 0000\n0 run 2 0 0\n0 fault store 2 0 0000\n0 unload 2\n1 end idle\n",
+    },
+    Row {
+        words: "run s a",
+        script: LOAD,
+        images: &[STORES],
+        status: Status::Done,
+        text: "0 load 2 0 0200\n0 run 2 0 0\n3 done 2\n4 end idle\n",
+    },
+    Row {
+        words: "run s a",
+        script: LOAD,
+        images: &[PASSES],
+        status: Status::Done,
+        text: "0 load 2 0 0200\n0 run 2 0 0\n2 fault store 2 2 0208\n2 unload 2\n3 end idle\n",
+    },
+    Row {
+        words: "run s a b",
+        script: "0 load 0\n0 load 1\n",
+        images: &[STORES, STORES_NEXT],
+        status: Status::Done,
+        text: "0 load 2 0 0200\n0 run 2 0 0\n3 done 2\n4 load 3 1 0208\n4 run 3 0 0\n7 done 3\n8 end idle\n",
+    },
+    Row {
+        words: "run s a b",
+        script: "0 load 0\n0 load 1\n0 unload 1\n",
+        images: &[SAYS_EACH, POSTS],
+        status: Status::Done,
+        text: "0 load 2 0 0000\n0 run 2 0 0\n1 say 2 66\n2 done 2\n\
+            3 load 1 1 0000\n3 run 1 0 0\n7 done 1\n\
+            8 run 1 1 0\n12 done 1\n12 unload 1\n13 end idle\n",
+    },
+    Row {
+        words: "run s a b",
+        script: "0 load 0\n0 load 1\n9 unload 1\n",
+        images: &[SAYS_EACH, POSTS],
+        status: Status::Done,
+        text: "0 load 2 0 0000\n0 run 2 0 0\n1 say 2 66\n2 done 2\n\
+            3 load 1 1 0000\n3 run 1 0 0\n7 done 1\n\
+            8 run 2 9 1\n9 say 2 66\n10 done 2\n\
+            11 run 1 1 0\n15 done 1\n15 unload 1\n16 end idle\n",
+    },
+    Row {
+        words: "run s a",
+        script: "0 load 0\n0 load 0\n",
+        images: &[SAYS],
+        status: Status::Done,
+        text: "0 load 1 0 0000\n0 run 1 0 0\n1 say 1 65\n2 done 1\n3 refused 0 4 0 0 0\n3 end idle\n",
+    },
+    Row {
+        words: "run s a b c d e f g h",
+        script: EIGHT_LOADS,
+        images: RETURNS,
+        status: Status::Done,
+        text: SEVEN_LOADED,
+    },
+    Row {
+        words: "run s a",
+        script: "0 unload 9\n",
+        images: &[SAYS],
+        status: Status::Done,
+        text: "0 absent 9\n0 end idle\n",
+    },
+    Row {
+        words: "run s x",
+        script: LOAD,
+        images: &[SAYS],
+        status: Status::ReadFault,
+        text: "",
+    },
+];
+
 #[test]
 fn answers_are_the_worked_ones(rt: HostRuntime) -> Result<(), Fail> {
     let alloc = rt.alloc();
-    let rows = [
-        ("run s i", LOAD, SAYS, Status::Done, SAID),
-        ("run s i", "", SAYS, Status::Done, "0 end idle\n"),
-        ("run", LOAD, SAYS, Status::Usage, "mote: usage\n"),
-        ("run -s i", LOAD, SAYS, Status::Usage, "mote: usage\n"),
-        (
-            "run s i",
-            LOAD,
-            UNBUILT,
-            Status::Refused,
-            "refused unbuilt\n",
-        ),
-        (
-            "run s i",
-            LOAD,
-            STRAYS,
-            Status::Done,
-            "0 load 2 0 0000\n0 run 2 0 0\n0 fault store 2 0 0000\n0 unload 2\n1 end idle\n",
-        ),
-        (
-            "run s i",
-            LOAD,
-            STORES,
-            Status::Done,
-            "0 load 2 0 0200\n0 run 2 0 0\n3 done 2\n4 end idle\n",
-        ),
-        (
-            "run s i",
-            LOAD,
-            PASSES,
-            Status::Done,
-            "0 load 2 0 0200\n0 run 2 0 0\n2 fault store 2 2 0208\n2 unload 2\n3 end idle\n",
-        ),
-        ("run s x", LOAD, SAYS, Status::ReadFault, ""),
-    ];
-    for (line, script, image, status, text) in rows {
-        let mut shelf = shelf_with(alloc, script.as_bytes(), image, NEVER)?;
+    for row in ROWS {
+        let mut shelf = shelf_with(alloc, row.script.as_bytes(), row.images, NEVER)?;
         let mut out = MemSink::new(alloc, 1000, vec![in alloc]?)?;
-        assert_eq!(rt; answer(alloc, line, &mut shelf, &mut out)?, status);
-        assert_eq!(rt; out.bytes(), text.as_bytes());
+        assert_eq!(rt; answer(alloc, row.words, &mut shelf, &mut out)?, row.status);
+        assert_eq!(rt; out.bytes(), row.text.as_bytes());
     }
     Ok(())
 }
@@ -117,10 +257,10 @@ fn faults_are_answered_at_each_call(rt: HostRuntime) -> Result<(), Fail> {
         (6, Status::Done, SAID),
     ];
     for (call, status, text) in reads {
-        let mut shelf = shelf_with(alloc, LOAD.as_bytes(), SAYS, call)?;
+        let mut shelf = shelf_with(alloc, LOAD.as_bytes(), &[SAYS], call)?;
         let mut out = MemSink::new(alloc, 1000, vec![in alloc]?)?;
         assert_eq!(rt;
-            answer(alloc, "run s i", &mut shelf, &mut out)?,
+            answer(alloc, "run s a", &mut shelf, &mut out)?,
             status,
             "call {call}"
         );
@@ -143,10 +283,10 @@ fn faults_are_answered_at_each_call(rt: HostRuntime) -> Result<(), Fail> {
         (5, Status::Done, SAID),
     ];
     for (put, status, text) in puts {
-        let mut shelf = shelf_with(alloc, LOAD.as_bytes(), SAYS, NEVER)?;
+        let mut shelf = shelf_with(alloc, LOAD.as_bytes(), &[SAYS], NEVER)?;
         let mut out = MemSink::new(alloc, 1000, vec![in alloc; put]?)?;
         assert_eq!(rt;
-            answer(alloc, "run s i", &mut shelf, &mut out)?,
+            answer(alloc, "run s a", &mut shelf, &mut out)?,
             status,
             "put {put}"
         );
@@ -161,15 +301,15 @@ fn sizes_are_tested_in_order(rt: HostRuntime) -> Result<(), Fail> {
     let rows = [
         (1_048_576usize, 65_536usize, "refused unbuilt\n"),
         (1_048_577, 65_537, "refused size 0\n"),
-        (1_048_576, 65_537, "refused size 1\n"),
+        (1_048_576, 65_537, "refused size 2\n"),
     ];
     for (script, image, text) in rows {
         let script = vec![in alloc; 0u8; script]?;
         let image = vec![in alloc; 0u8; image]?;
-        let mut shelf = shelf_with(alloc, &script, &image, NEVER)?;
+        let mut shelf = shelf_with(alloc, &script, &[SAYS, &image], NEVER)?;
         let mut out = MemSink::new(alloc, 1000, vec![in alloc]?)?;
         assert_eq!(rt;
-            answer(alloc, "run s i", &mut shelf, &mut out)?,
+            answer(alloc, "run s a b", &mut shelf, &mut out)?,
             Status::Refused,
             "{text}"
         );

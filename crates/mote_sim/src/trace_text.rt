@@ -204,6 +204,7 @@ pub fn put_line(t: &TraceLine, line: &mut Line)
             address,
         } => put_fault(line, time, rule, id, unit, address),
         TraceLine::Unload { time, id } => put_module(line, time, b" unload", id),
+        TraceLine::Absent { time, id } => put_module(line, time, b" absent", id),
         TraceLine::EndIdle { time } => put_end(line, time, b" end idle\n"),
         TraceLine::EndBudget { time } => put_end(line, time, b" end budget\n"),
     }

@@ -1,8 +1,9 @@
 use Rattle.mote_sim.proofs.Clauses.{headline, usage, refused, complete, answered, front, cut}
+use Rattle.mote_sim.proofs.Counts.{has_its_files}
 use Rattle.mote_sim.proofs.answer.mote_main.Goals as goal
 
 pub returns-clause-headline : goal.returns-clause-headline
-returns-clause-headline g c = headline _ _ _ _ _ _ _ _ _ _ c.answer.ensures.ends
+returns-clause-headline g c = headline _ _ _ _ _ _ _ _ _ _ (has_its_files c.args.words.now) c.answer.ensures.ends
 
 pub returns-clause-usage : goal.returns-clause-usage
 returns-clause-usage g c = usage _ _ _ _ _ _ _ _ _ _ c.answer.ensures.ends

@@ -1,4 +1,5 @@
-use Rattle.std.proofs.Common.{◌≡◌, ◌≤◌, ◌<◌, refl, subst, List, [], ◌∷◌, length, get_or, arith}
+use Rattle.std.proofs.Common.{◌≡◌, ◌≤◌, ◌-◌, refl, subst, List, [], ◌∷◌, length, take, drop, get_or, arith}
+use Rattle.std.proofs.lemmas.List.{take_all}
 use Rattle.domain_model.specs.declared.request.Kind.{Kind}
 use Rattle.domain_model.specs.declared.request.Kind.TheVariants.{Run}
 use Rattle.mote_sim.specs.Outcome.{Answers, outcome_by}
@@ -9,15 +10,14 @@ use Rattle.mote_sim.proofs.answer.perform.Goals as goal
 kind_is_run : (kind : Kind) → Run ≡ kind
 kind_is_run Run = refl
 
-two : {X : Type 0} (xs : List X) (a b : X) → 2 ≤ length xs → length xs < 3 → a ≡ get_or xs 0 a → b ≡ get_or xs 1 b → a ∷ b ∷ [] ≡ xs
-two [] a b low high p q = absurd (omega arith)
-two (x ∷ []) a b low high p q = absurd (omega arith)
-two (x ∷ y ∷ []) a b low high p q = cc
-two (x ∷ y ∷ z ∷ zs) a b low high p q = absurd (omega arith)
+first_and_others : {X : Type 0} (xs : List X) (a : X) → 1 ≤ length xs → a ≡ get_or xs 0 a → a ∷ take (length xs - 1) (drop 1 xs) ≡ xs
+first_and_others [] a low is = absurd (omega (arith, low))
+first_and_others (x ∷ xs) a low is =
+    let all : take (length (x ∷ xs) - 1) xs ≡ xs = take_all (length (x ∷ xs) - 1) xs (omega arith) in cc
 
 pub returns : goal.returns
 returns g c =
-    let files : c.script-item.result ∷ c.image-item.result ∷ [] ≡ c.args.files.now = two c.args.files.now c.script-item.result c.image-item.result c.in-len2.len_at_least c.in-len2.len_below c.script-item.is c.image-item.is in
+    let files : c.script-item.result ∷ take (length c.args.files.now - 1) (drop 1 c.args.files.now) ≡ c.args.files.now = first_and_others c.args.files.now c.script-item.result c.in-len1-up.len_at_least c.script-item.is in
     ends_as _ _ _ _ _ _ (Answers (outcome_by c.args.kind (bytes_of c.args.files.now)))
     (λ s t a. subst (λ kind. Answers (outcome_by kind (bytes_of c.args.files.now)) s t) (kind_is_run c.args.kind)
-    (subst (λ xs. Answers (outcome_by Run (bytes_of xs)) s t) files (rw (← c.deref.ensures.value, ← c.deref-in-len2.ensures.value) a))) c.run.result c.run.ensures
+    (subst (λ xs. Answers (outcome_by Run (bytes_of xs)) s t) files (rw (← c.deref.ensures.value) a))) c.run.result c.run.ensures

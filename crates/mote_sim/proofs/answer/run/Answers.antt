@@ -1,5 +1,6 @@
 use Rattle.std.proofs.Common.{sym, subst}
 use Rattle.mote_sim.specs.Outcome.{Answers, outcome_with}
+use Rattle.mote_sim.specs.Reading.{bytes_of}
 use Rattle.mote_sim.specs.Trace.{input_of}
 use Rattle.mote_sim.proofs.Ends.{ends_as}
 use Rattle.mote_sim.proofs.Prepared.{unbuilt, standing, goes_on, played_answers, stopped_cuts}
@@ -18,8 +19,8 @@ play-requires-clause-going g c = goes_on (standing _ _ (rw c.in-Ok-Some.field-0-
 
 pub returns-in-Ok-play : goal.returns-in-Ok-play
 returns-in-Ok-play g c =
-    played_answers (input_of c.args.script.now c.args.image.now) (standing _ _ (rw c.in-Ok-Some.field-0-is at c.in-Ok-Some.ensures)) c.in-Ok-play.ensures.played
+    played_answers (input_of c.args.script.now (bytes_of c.args.images.now)) (standing _ _ (rw c.in-Ok-Some.field-0-is at c.in-Ok-Some.ensures)) c.in-Ok-play.ensures.played
 
 pub returns : goal.returns
 returns g c =
-    stopped_cuts (input_of c.args.script.now c.args.image.now) (standing _ _ (rw c.in-Ok-Some.field-0-is at c.in-Ok-Some.ensures)) c.in-Err-play.ensures.stopped
+    stopped_cuts (input_of c.args.script.now (bytes_of c.args.images.now)) (standing _ _ (rw c.in-Ok-Some.field-0-is at c.in-Ok-Some.ensures)) c.in-Err-play.ensures.stopped
