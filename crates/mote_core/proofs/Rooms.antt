@@ -9,7 +9,8 @@ use Rattle.mote_layout.proofs.BlockLists.{AreBlocks-inserted, length-blocks}
 use Rattle.mote_layout.proofs.LeastFit.{fit-some}
 use Rattle.domain_model.specs.declared.module.ModuleRow.{ModuleRow}
 use Rattle.domain_model.specs.State.{RunnerState}
-use Rattle.domain_model.specs.Turn.{in_use, is_loaded, without_domain}
+use Rattle.domain_model.specs.Turn.{in_use, without_domain}
+use Rattle.domain_model.specs.Act.{is_loaded}
 use Rattle.domain_model.specs.Good.{AreDistinct, IsApart, GoodModule}
 use Rattle.domain_model.proofs.Kept.{each_filter, each_weaker, each_push}
 use Rattle.domain_model.proofs.ModuleLaws.{all_apart, distinct_push, distinct_filter, other_domain}
@@ -67,14 +68,14 @@ few zero [] d below = omega arith
 few zero (m ∷ ms) d below = absurd (omega (arith, below.0))
 few (suc bound) rows d below =
     let rest : length (without_domain bound rows) ≤ bound =
-        few bound (without_domain bound rows) (distinct_filter (λ m. not (m.domain == bound)) rows d)
-        (each_filter (λ (m : ModuleRow). m.domain < suc bound) (λ m. m.domain < bound) (λ m. not (m.domain == bound)) (λ m kept h. omega (arith, h, other_domain m.domain bound kept)) rows below) in
+    few bound (without_domain bound rows) (distinct_filter (λ m. not (m.domain == bound)) rows d)
+    (each_filter (λ (m : ModuleRow). m.domain < suc bound) (λ m. m.domain < bound) (λ m. not (m.domain == bound)) (λ m kept h. omega (arith, h, other_domain m.domain bound kept)) rows below) in
     omega (arith, rest, one_out rows bound d)
 
 -- a free domain leaves room for its module
 pub room_for_module : (r : RunnerState) (rows : List ModuleRow) (row : ModuleRow) → AreDistinct rows → AllByRecursion (GoodModule r) rows → row.domain < 7 → in_use rows row.domain ≡ false → is_loaded rows row.id ≡ false → length rows < 7
 room_for_module r rows row d good below free new =
     let more : length (rows ++ row ∷ []) ≤ 7 =
-        few 7 (rows ++ row ∷ []) (distinct_push rows row d (all_apart rows row new free))
-        (each_push (λ (m : ModuleRow). m.domain < 7) rows row (each_weaker (GoodModule r) (λ m. m.domain < 7) (λ m g. g.domain) rows good) below) in
+    few 7 (rows ++ row ∷ []) (distinct_push rows row d (all_apart rows row new free))
+    (each_push (λ (m : ModuleRow). m.domain < 7) rows row (each_weaker (GoodModule r) (λ m. m.domain < 7) (λ m g. g.domain) rows good) below) in
     omega (arith, more, length-append rows (row ∷ []))

@@ -10,6 +10,6 @@ use Rattle.mote_core.proofs.mod_loader.Ready.new.Goals as goal
 pub returns-clause-good : goal.returns-clause-good
 returns-clause-good c =
     let bytes : AllByRecursion (λ b. b < 256) c.args.file.now =
-        recursion_from_All (λ b. b < 256) c.args.file.now (λ k d within. rw (get_or_default_zero c.args.file.now k d within) (omega (arith, c.type_inv.file k))) in
+    recursion_from_All (λ b. b < 256) c.args.file.now (λ k d within. rw (get_or_default_zero c.args.file.now k d within) (omega (arith, c.type_inv.file k))) in
     let is : prepared c.args.file.now ≡ Some _ = search rules in
     subst IsGoodImage is (prepared_is_good_image c.args.file.now bytes)
