@@ -9,7 +9,8 @@ use Rattle.mote_layout.proofs.BlockLists.{AreBlocks-inserted, length-blocks}
 use Rattle.mote_layout.proofs.LeastFit.{fit-some}
 use Rattle.domain_model.specs.declared.module.ModuleRow.{ModuleRow}
 use Rattle.domain_model.specs.State.{RunnerState}
-use Rattle.domain_model.specs.Turn.{in_use, is_loaded, without_domain}
+use Rattle.domain_model.specs.Turn.{in_use, without_domain}
+use Rattle.domain_model.specs.Act.{is_loaded}
 use Rattle.domain_model.specs.Good.{AreDistinct, IsApart, GoodModule}
 use Rattle.domain_model.proofs.Kept.{each_filter, each_weaker, each_push}
 use Rattle.domain_model.proofs.ModuleLaws.{all_apart, distinct_push, distinct_filter, other_domain}

@@ -2,8 +2,7 @@
 ghost use Rattle.std.specs.Prelude.{◌≡◌, ◌<◌, ◌≤◌, ◌+◌, ◌-◌, ◌++◌, drop, length, IfOk};
 ghost use Rattle.domain_model.specs.State.{no_bytes, no_processor, register, with_register, pair, with_pair, with_byte, with_zeros, dispatched, frame_of};
 
-use domain_model::Message;
-use mote_base::NoMemory;
+use mote_base::{Msg, NoMemory};
 use mote_layout::{MESSAGE_FRAME, MESSAGE_FRAME_BYTES, RAM_BYTES, RAM_START, STACK_TOP};
 use std::alloc::Global;
 use std::marker::Model;
@@ -113,7 +112,7 @@ impl Cpu {
     }
 
     /// Sets all up for a handler: the message frame, the registers, and an empty stack.
-    pub fn dispatch(&mut self, state: u16, message: &Message)
+    pub fn dispatch(&mut self, state: u16, message: &Msg<()>)
         ensures { self.new ≡ dispatched self.old state message.now }
     {
         self.registers = [0; 32];
@@ -141,25 +140,33 @@ fn clear_range(memory: &mut [u8], first: usize, count: usize)
 }
 
 // The frame's bytes for a message.
-fn frame_bytes(message: &Message) -> [u8; 16]
+fn frame_bytes(message: &Msg<()>) -> [u8; 16]
     ensures { result ≡ frame_of message.now }
 {
-    let Message {
-        to,
-        from,
-        sort,
-        byte,
-        word,
-    } = *message;
-    let low = (word % 256) as u8;
-    let high = (word / 256) as u8;
+    let low = (message.word % 256) as u8;
+    let high = (message.word / 256) as u8;
     [
-        sort, from, to, 0, byte, low, high, 0, 0, 0, 0, 0, 0, 0, 0, 0,
+        message.sort,
+        message.from,
+        message.to,
+        0,
+        message.byte,
+        low,
+        high,
+        0,
+        0,
+        0,
+        0,
+        0,
+        0,
+        0,
+        0,
+        0,
     ]
 }
 
 // Puts the frame's bytes at the front of the memory.
-fn write_frame(memory: &mut [u8], message: &Message)
+fn write_frame(memory: &mut [u8], message: &Msg<()>)
     requires { length memory.old ≡ 4096 }
     ensures { memory.new ≡ frame_of message.now ++ drop 16 memory.old }
 {

@@ -1,15 +1,23 @@
 //! The events of a script file.
+//!
+//! A script is read line by line, and each line by its words; nothing of the text is copied. `parse_script` gives the
+//! one list of events that a text spells, and none exactly where it spells none.
+
+mod line;
+mod number;
+#[cfg(test)]
+mod tests;
+
 ghost use Rattle.std.specs.Prelude.{◌≡◌, ◌<◌, IfOk, IfSome, drop, length, slice_get};
 ghost use Rattle.domain_model.specs.Script.{events_of};
 ghost use Rattle.domain_model.specs.Good.{AreTimes};
 
-use domain_model::{Event, What};
+use domain_model::Event;
+use line::{cut, event_of, is_blank};
 use mote_base::NoMemory;
+use mote_layout::EVENTS;
 use std::alloc::Global;
 use std::marker::Model;
-
-/// The only line that a script may have, so far.
-const ONE_LOAD: &[u8] = b"0 load 0\n";
 
 /// The events of a run that are still to come, in their order.
 #[derive(Drop)]
@@ -47,21 +55,33 @@ impl Script {
     }
 }
 
-/// The events of a script, where it is one that is built.
-pub fn parse_script(alloc: Global, text: &[u8]) -> Result<Option<Script>, NoMemory>
-    ensures events { IfOk result (λ found. found ≡ events_of text.now) }
+/// The events of a script, where it is one that is built. `images` is how many images the run is given.
+pub fn parse_script(alloc: Global, text: &[u8], images: usize) -> Result<Option<Script>, NoMemory>
+    ensures events { IfOk result (λ found. found ≡ events_of text.now images) }
     ensures times { IfOk result (λ found. IfSome found (λ s. AreTimes s)) }
 {
     let mut events = Vec::new(alloc);
-    if text.is_empty() {
-        return Ok(Some(Script { events, passed: 0 }));
+    let mut before = 0;
+    let mut rest = text;
+    while !rest.is_empty() {
+        let Some((line, behind)) = cut(rest, b'\n') else {
+            return Ok(None);
+        };
+        rest = behind;
+        if is_blank(line) {
+            continue;
+        }
+        let Some(event) = event_of(line, images) else {
+            return Ok(None);
+        };
+        if event.time < before {
+            return Ok(None);
+        }
+        before = event.time;
+        events.push(event)?;
     }
-    if text != ONE_LOAD {
+    if events.len() > EVENTS {
         return Ok(None);
     }
-    events.push(Event {
-        time: 0,
-        what: What::Load(0),
-    })?;
     Ok(Some(Script { events, passed: 0 }))
 }

@@ -1,19 +1,39 @@
 //! The kernel: the clock, the processor, the owned blocks, the loaded modules, and what runs.
-ghost use Rattle.std.specs.Prelude.{◌≡◌, ◌<◌, ◌≤◌, ◌+◌, ◌*◌, ◌==◌, ◌++◌, ◌∷◌, [], length, IfOk, IfSome, IfNone, Some, None};
+ghost use Rattle.std.specs.Prelude.{◌≡◌, ◌<◌, ◌≤◌, ◌+◌, ◌*◌, ◌==◌, ◌++◌, ◌∷◌, [], length, IfOk, IfSome, IfNone, Some, None, is_some};
 ghost use Rattle.mote_layout.specs.Blocks.{AreBlocks};
 ghost use Rattle.domain_model.specs.State.{no_kernel, with_processor, with_register, with_byte};
-ghost use Rattle.domain_model.specs.Act.{id_at, may_store, answered};
-ghost use Rattle.domain_model.specs.Turn.{in_use, is_loaded, free_domain, given, begun, handler_ended, purged, without_domain, at_clock};
+ghost use Rattle.domain_model.specs.Act.{id_at, is_loaded, may_store, answered, message_of, post_short};
+ghost use Rattle.domain_model.specs.Turn.{in_use, module_named, free_domain, given, begun, ended, handler_ended, purged, unnamed, without_domain, at_clock};
+ghost use Rattle.mote_base.specs.Messages.{front, without_front};
 ghost use Rattle.mote_core.specs.Kernel.{given_as, with_memory_and_blocks};
 
 use crate::avr_machine::Cpu;
 use crate::sos_heap::{Blocks, block_address};
 use arrayvec::ArrayVec;
-use domain_model::{Message, ModuleRow, Running};
-use mote_base::NoMemory;
+use domain_model::{ModuleRow, Running};
+use mote_base::{Msg, NoMemory};
 use mote_layout::{BLOCK_BYTES, DOMAINS, STACK_TOP};
+use msg_queue::Queues;
 use std::alloc::Global;
 use std::marker::Model;
+
+/// The arguments of a post, by register: the receiver's id, the type, the byte, the word's lower register, the flags.
+const RECEIVER: u8 = 24;
+
+const SORT: u8 = 22;
+
+const BYTE: u8 = 20;
+
+const WORD: u8 = 18;
+
+const FLAGS: u8 = 16;
+
+/// What a post answers.
+const POSTED: u16 = 0;
+
+const FULL: u16 = 1;
+
+const NOT_LOADED: u16 = 2;
 
 /// The kernel's state.
 #[derive(Drop)]
@@ -22,8 +42,10 @@ pub struct Kernel {
     cpu: Cpu,
     blocks: Blocks,
     modules: ArrayVec<ModuleRow, 7>,
+    queues: Queues<()>,
     running: Option<Running>,
-    hand: Option<Message>,
+    hand: Option<Msg<()>>,
+    ending: Option<u8>,
 }
 
 impl Model for Kernel {
@@ -36,8 +58,10 @@ impl Model for Kernel {
       processor = k.cpu;
       blocks = k.blocks;
       modules = k.modules.items;
+      queues = k.queues;
       running = k.running;
       hand = k.hand;
+      ending = k.ending;
     } };
 }
 
@@ -51,8 +75,10 @@ impl Kernel {
             cpu: Cpu::new(alloc)?,
             blocks: Blocks::new(),
             modules: ArrayVec::new(),
+            queues: Queues::new(alloc)?,
             running: None,
             hand: None,
+            ending: None,
         })
     }
 
@@ -91,6 +117,66 @@ impl Kernel {
         ensures { result ≡ is_loaded self.now.modules id }
     {
         self.modules.as_slice().iter().any(|m| m.id == id)
+    }
+
+    /// The module with that id.
+    pub fn module_named(&self, id: u8) -> Option<ModuleRow>
+        ensures { result ≡ module_named self.now.modules id }
+    {
+        find_named(self.modules.as_slice(), id)
+    }
+
+    /// The id of the module whose last message is in hand.
+    pub fn ending(&self) -> Option<u8>
+        ensures { result ≡ self.now.ending }
+    {
+        self.ending
+    }
+
+    /// Whether a message waits.
+    pub fn has_message(&self) -> bool
+        ensures { result ≡ is_some (front self.now.queues) }
+    {
+        self.queues.count(true) > 0 || self.queues.count(false) > 0
+    }
+
+    /// Takes the first message that waits, the high queue first.
+    pub fn next_message(&mut self) -> Option<Msg<()>>
+        ensures front { result ≡ front self.old.queues }
+        ensures rest { self.new ≡ record self.old { queues = without_front self.old.queues } }
+    {
+        self.queues.next()
+    }
+
+    /// The short message that the registers of a post ask for.
+    fn message_of(&self, run: &Running) -> Msg<()>
+        ensures { result ≡ message_of self.now run.now }
+    {
+        Msg {
+            to: self.cpu.register(RECEIVER),
+            from: self.id_at(run.domain),
+            sort: self.cpu.register(SORT),
+            byte: self.cpu.register(BYTE),
+            word: self.cpu.pair(WORD),
+            long: false,
+            len: 0,
+            load: None,
+            high: self.cpu.register(FLAGS) % 2 == 1,
+        }
+    }
+
+    /// Posts the short message that the registers ask for, and answers in R25:R24.
+    pub fn post_short(&mut self, run: &Running)
+        ensures { self.new ≡ post_short self.old run.now }
+    {
+        let message = self.message_of(run);
+        if !self.is_loaded(message.to) {
+            return self.answer(NOT_LOADED);
+        }
+        match self.queues.post(message) {
+            Ok(()) => self.answer(POSTED),
+            Err(_) => self.answer(FULL),
+        }
     }
 
     /// The lowest domain that no module is in.
@@ -158,7 +244,7 @@ impl Kernel {
     }
 
     /// Starts the handler of a module with a message.
-    pub fn begin(&mut self, row: &ModuleRow, message: Message)
+    pub fn begin(&mut self, row: &ModuleRow, message: Msg<()>)
         ensures { self.new ≡ begun self.old row.now message }
     {
         self.cpu.dispatch(row.state, &message);
@@ -170,6 +256,21 @@ impl Kernel {
         self.hand = Some(message);
     }
 
+    /// Starts the handler of a module with its last message.
+    pub fn finish(&mut self, row: &ModuleRow, message: Msg<()>)
+        ensures { self.new ≡ record (begun self.old row.now message) { ending = Some message.to } }
+    {
+        self.ending = Some(message.to);
+        self.begin(row, message);
+    }
+
+    /// No module ends any more.
+    pub fn close(&mut self)
+        ensures { self.new ≡ ended self.old }
+    {
+        self.ending = None;
+    }
+
     /// The handler is over.
     pub fn end_handler(&mut self)
         ensures { self.new ≡ handler_ended self.old }
@@ -178,12 +279,13 @@ impl Kernel {
         self.hand = None;
     }
 
-    /// Takes the module in a domain out, and frees its blocks.
-    pub fn purge(&mut self, domain: u8)
-        ensures { self.new ≡ purged self.old domain }
+    /// Takes the module with that id in a domain out, with its blocks and every message from or to it.
+    pub fn purge(&mut self, id: u8, domain: u8)
+        ensures { self.new ≡ purged self.old id domain }
     {
         remove_domain(&mut self.modules, domain);
         self.blocks.purge(domain);
+        remove_named(&mut self.queues, id);
     }
 
     pub fn set_clock(&mut self, now: u64)
@@ -209,6 +311,30 @@ fn first_free(modules: &[ModuleRow]) -> Option<u8>
         }
     }
     None
+}
+
+fn find_named(modules: &[ModuleRow], id: u8) -> Option<ModuleRow>
+    ensures { result ≡ module_named modules.now id }
+{
+    modules.iter().copied().find(|m| is_named(m, id))
+}
+
+fn is_named(row: &ModuleRow, id: u8) -> bool
+    ensures { result ≡ (row.now.id == id) }
+{
+    row.id == id
+}
+
+// Takes every message from or to a module out.
+fn remove_named(queues: &mut Queues<()>, id: u8)
+    ensures { queues.new ≡ unnamed id queues.old }
+{
+    'named: loop {
+        match queues.take_named(id) {
+            Some(_) => {}
+            None => return,
+        }
+    }
 }
 
 fn remove_domain(modules: &mut ArrayVec<ModuleRow, 7>, domain: u8)

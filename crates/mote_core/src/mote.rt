@@ -7,13 +7,14 @@ ghost use Rattle.domain_model.specs.Good.{Good, IsGoodImage, AreTimes};
 ghost use Rattle.domain_model.specs.Laws.{LawfulTurn};
 ghost use Rattle.domain_model.specs.Remaining.{remaining};
 ghost use Rattle.domain_model.specs.State.{begins};
+ghost use Rattle.mote_base.specs.Messages.{front};
 ghost use Rattle.domain_model.specs.Turn.{choice, choose_inside, choose_outside, made};
 
 use crate::event_script::Script;
 use crate::kernel_call::Kernel;
 use crate::limits::Limits;
 use crate::mod_loader::Ready;
-use crate::turns::{come, settle, stop};
+use crate::turns::{come, dispatch, settle, stop};
 use crate::unit_run::PlainRunner;
 use domain_model::{Choice, Event, FaultNote, Lines, Rule, Running, TraceLine, Turned};
 use mote_base::NoMemory;
@@ -124,17 +125,26 @@ impl Mote {
     }
 
     fn choose_outside(&self) -> Choice
-        ensures { result ≡ choose_outside self.now.events self.now.kernel.clock }
+        ensures { result ≡ choose_outside self.now.events self.now.kernel.clock (front self.now.kernel.queues) }
     {
+        let waits = self.kernel.has_message();
         match self.script.first() {
             Some(event) => {
                 if event.time <= self.kernel.clock() {
                     Choice::Comes(event)
+                } else if waits {
+                    Choice::Dispatches
                 } else {
                     Choice::Jumps(event.time)
                 }
             }
-            None => Choice::Idles,
+            None => {
+                if waits {
+                    Choice::Dispatches
+                } else {
+                    Choice::Idles
+                }
+            }
         }
     }
 
@@ -147,6 +157,7 @@ impl Mote {
         match next {
             Choice::Stays => {}
             Choice::Comes(event) => self.come(&event, lines),
+            Choice::Dispatches => self.dispatch(lines),
             Choice::Jumps(now) => self.jump(now),
             Choice::Idles => self.idle(lines),
             Choice::Budgets => self.spend(lines),
@@ -170,6 +181,16 @@ impl Mote {
             &mut self.runner,
             lines,
         );
+    }
+
+    fn dispatch(&mut self, lines: &mut Lines)
+        requires empty { lines.old ≡ [] }
+        requires chosen { choice self.old ≡ Choice.Dispatches }
+        ensures state { self.new ≡ (made Choice.Dispatches self.old (act self.old.kernel self.old.runner)).state }
+        ensures lines { lines.new ≡ (made Choice.Dispatches self.old (act self.old.kernel self.old.runner)).lines }
+    {
+        self.spent = 0;
+        dispatch(&mut self.kernel, &mut self.runner, lines);
     }
 
     fn jump(&mut self, now: u64)

@@ -1,6 +1,8 @@
 //! What turns do to kernel and runner.
 ghost use Rattle.std.specs.Prelude.{◌≡◌, ◌<◌, ◌≤◌, ◌+◌, [], ◌∷◌, ◌++◌, length, Some, slice_get};
-ghost use Rattle.domain_model.specs.Turn.{came, load_image, begun, entered, init_to, faulted, settled};
+ghost use Rattle.domain_model.specs.Turn.{came, load_image, unload_module, module_named, dispatch, close, begun, entered, init_to, kernel_message, faulted, settled};
+ghost use Rattle.mote_base.specs.Messages.{front};
+ghost use Rattle.mote_core.specs.Rows.{AreInDomains};
 ghost use Rattle.domain_model.specs.Act.{act};
 ghost use Rattle.domain_model.specs.Image.{Module};
 ghost use Rattle.domain_model.specs.Good.{GoodMachine, GoodImage, IsGoodImage};
@@ -9,7 +11,8 @@ ghost use Rattle.std.specs.List.{AllByRecursion};
 use crate::kernel_call::Kernel;
 use crate::mod_loader::{Loadable, Ready};
 use crate::unit_run::PlainRunner;
-use domain_model::{FaultNote, Lines, Message, ModuleRow, Running, TraceLine, UnitEnd, What};
+use domain_model::{FaultNote, Lines, ModuleRow, Running, TraceLine, UnitEnd, What};
+use mote_base::Msg;
 
 /// Why a load is refused, by the number that its line gives.
 const DUPLICATE: u8 = 4;
@@ -18,10 +21,29 @@ const NO_DOMAIN: u8 = 5;
 
 const NO_ROOM: u8 = 6;
 
-/// The type of the first message of a module, and the kernel's number as its sender.
+/// The types of the first and of the last message of a module, and the kernel's number as their sender.
 const INIT: u8 = 0;
 
+const FINAL: u8 = 1;
+
 const KERNEL_SENDER: u8 = 0;
+
+// A message of the kernel's own.
+fn kernel_message(to: u8, sort: u8) -> Msg<()>
+    ensures { result ≡ kernel_message to sort }
+{
+    Msg {
+        to,
+        from: KERNEL_SENDER,
+        sort,
+        byte: 0,
+        word: 0,
+        long: false,
+        len: 0,
+        load: None,
+        high: false,
+    }
+}
 
 /// Does what an event of the script asks for.
 pub fn come(images: &[Ready], what: What, k: &mut Kernel, r: &mut PlainRunner, lines: &mut Lines)
@@ -40,6 +62,53 @@ pub fn come(images: &[Ready], what: What, k: &mut Kernel, r: &mut PlainRunner, l
                 }
             }
         }
+        What::Unload(id) => unload(id, k, r, lines),
+    }
+}
+
+// Starts the last handler of a module, or says that there is no such module.
+fn unload(id: u8, k: &mut Kernel, r: &mut PlainRunner, lines: &mut Lines)
+    requires { lines.old ≡ [] }
+    ensures kernel { k.new ≡ (unload_module (module_named k.old.modules id) id k.old r.old).kernel }
+    ensures runner { r.new ≡ (unload_module (module_named k.old.modules id) id k.old r.old).runner }
+    ensures lines { lines.new ≡ (unload_module (module_named k.old.modules id) id k.old r.old).lines }
+{
+    let time = k.clock();
+    match k.module_named(id) {
+        None => lines.add(TraceLine::Absent { time, id }),
+        Some(row) => {
+            k.finish(&row, kernel_message(id, FINAL));
+            r.enter(row.handler);
+            lines.add(TraceLine::Run {
+                time,
+                id,
+                sort: FINAL,
+                from: KERNEL_SENDER,
+            });
+        }
+    }
+}
+
+/// Dispatches the first message that waits.
+pub fn dispatch(k: &mut Kernel, r: &mut PlainRunner, lines: &mut Lines)
+    requires empty { lines.old ≡ [] }
+    requires machine { GoodMachine k.old r.old }
+    ensures kernel { k.new ≡ (dispatch (front k.old.queues) k.old r.old).kernel }
+    ensures runner { r.new ≡ (dispatch (front k.old.queues) k.old r.old).runner }
+    ensures lines { lines.new ≡ (dispatch (front k.old.queues) k.old r.old).lines }
+{
+    if let Some(message) = k.next_message() {
+        let Some(row) = k.module_named(message.to) else {
+            unreachable!()
+        };
+        lines.add(TraceLine::Run {
+            time: k.clock(),
+            id: row.id,
+            sort: message.sort,
+            from: message.from,
+        });
+        k.begin(&row, message);
+        r.enter(row.handler);
     }
 }
 
@@ -100,16 +169,7 @@ fn start(row: &ModuleRow, k: &mut Kernel, r: &mut PlainRunner, lines: &mut Lines
         domain: row.domain,
         state: row.state,
     });
-    k.begin(
-        row,
-        Message {
-            to: row.id,
-            from: KERNEL_SENDER,
-            sort: INIT,
-            byte: 0,
-            word: 0,
-        },
-    );
+    k.begin(row, kernel_message(row.id, INIT));
     r.enter(row.handler);
     lines.add(TraceLine::Run {
         time,
@@ -122,7 +182,8 @@ fn start(row: &ModuleRow, k: &mut Kernel, r: &mut PlainRunner, lines: &mut Lines
 /// Stops the handler, and takes its module out.
 pub fn stop(note: FaultNote, run: &Running, k: &mut Kernel, r: &mut PlainRunner, lines: &mut Lines)
     requires domain { run.now.domain < 7 }
-    requires room { length lines.old + 2 ≤ 512 }
+    requires modules { AreInDomains k.old.modules }
+    requires room { length lines.old + 3 ≤ 512 }
     ensures kernel { k.new ≡ (faulted note run.now k.old r.old lines.old).kernel }
     ensures runner { r.new ≡ (faulted note run.now k.old r.old lines.old).runner }
     ensures lines { lines.new ≡ (faulted note run.now k.old r.old lines.old).lines }
@@ -138,8 +199,31 @@ pub fn stop(note: FaultNote, run: &Running, k: &mut Kernel, r: &mut PlainRunner,
     });
     lines.add(TraceLine::Unload { time, id });
     k.end_handler();
-    k.purge(run.domain);
+    k.purge(id, run.domain);
     r.empty(run.domain);
+    close(k, r, lines);
+}
+
+// Takes the module that ends out, where it is still loaded.
+fn close(k: &mut Kernel, r: &mut PlainRunner, lines: &mut Lines)
+    requires modules { AreInDomains k.old.modules }
+    requires room { length lines.old < 512 }
+    ensures kernel { k.new ≡ (close k.old.ending k.old r.old lines.old).kernel }
+    ensures runner { r.new ≡ (close k.old.ending k.old r.old lines.old).runner }
+    ensures lines { lines.new ≡ (close k.old.ending k.old r.old lines.old).lines }
+{
+    let Some(id) = k.ending() else {
+        return;
+    };
+    if let Some(row) = k.module_named(id) {
+        lines.add(TraceLine::Unload {
+            time: k.clock(),
+            id: row.id,
+        });
+        k.purge(row.id, row.domain);
+        r.empty(row.domain);
+    }
+    k.close();
 }
 
 /// Does what the end of a unit asks for.
@@ -151,7 +235,8 @@ pub fn settle(
     lines: &mut Lines,
 )
     requires domain { run.now.domain < 7 }
-    requires room { length lines.old + 2 ≤ 512 }
+    requires modules { AreInDomains k.old.modules }
+    requires room { length lines.old + 3 ≤ 512 }
     ensures kernel { k.new ≡ (settled ending run.now k.old r.old lines.old).kernel }
     ensures runner { r.new ≡ (settled ending run.now k.old r.old lines.old).runner }
     ensures lines { lines.new ≡ (settled ending run.now k.old r.old lines.old).lines }
@@ -164,6 +249,7 @@ pub fn settle(
                 id: k.id_at(run.domain),
             });
             k.end_handler();
+            close(k, r, lines);
         }
         UnitEnd::Fault(note) => stop(note, run, k, r, lines),
     }

@@ -9,10 +9,18 @@ use mote_base::{NoMemory, Words};
 use mote_layout::BANK_WORDS;
 use std::alloc::Global;
 
-/// The program address of the kernel call `say`, and the call's number.
+/// The program addresses of the kernel calls that are built, and the calls' numbers.
+const POST_SHORT_ENTRY: u32 = 0xF103;
+
+const POST_SHORT: u8 = 3;
+
 const SAY_ENTRY: u32 = 0xF108;
 
 const SAY: u8 = 8;
+
+const MY_ID_ENTRY: u32 = 0xF10B;
+
+const MY_ID: u8 = 11;
 
 /// The units of the words, where these can be loaded.
 pub fn units(alloc: Global, code: &Words<'_>) -> Result<Option<Vec<Unit>>, NoMemory>
@@ -35,7 +43,9 @@ fn unit_of(instruction: Instr) -> Option<Unit>
     match instruction {
         Instr::Ldi(_, _) | Instr::Mov(_, _) => Some(Unit::Plain(instruction)),
         Instr::StX(_) => Some(Unit::Store(instruction)),
+        Instr::Call(POST_SHORT_ENTRY) => Some(Unit::KernelCall(POST_SHORT)),
         Instr::Call(SAY_ENTRY) => Some(Unit::KernelCall(SAY)),
+        Instr::Call(MY_ID_ENTRY) => Some(Unit::KernelCall(MY_ID)),
         Instr::Ret => Some(Unit::Return),
         _ => None,
     }

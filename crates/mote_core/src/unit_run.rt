@@ -1,8 +1,8 @@
 //! Runs the units of the loaded modules.
-ghost use Rattle.std.specs.Prelude.{◌≡◌, ◌<◌, ◌≤◌, ◌+◌, ◌++◌, [], length, IfOk, Some, slice_get};
+ghost use Rattle.std.specs.Prelude.{◌≡◌, ◌<◌, ◌≤◌, ◌+◌, ◌++◌, [], ◌∷◌, length, IfOk, Some, slice_get};
 ghost use Rattle.domain_model.specs.State.{no_runner};
-ghost use Rattle.domain_model.specs.Act.{act, act_unit, next_unit, plain_effect, store_effect, store_address};
-ghost use Rattle.domain_model.specs.State.{with_processor};
+ghost use Rattle.domain_model.specs.Act.{act, act_unit, next_unit, plain_effect, answered, id_at};
+ghost use Rattle.domain_model.specs.State.{with_processor, register};
 ghost use Rattle.domain_model.specs.Turn.{placed, emptied, entered};
 ghost use Rattle.domain_model.specs.Units.{IsBuilt};
 ghost use Rattle.domain_model.specs.Good.{GoodMachine, GoodRunning};
@@ -17,6 +17,13 @@ use std::marker::Model;
 
 /// The lower register of X.
 const X: u8 = 26;
+
+/// The kernel calls that are built, by number.
+const POST_SHORT: u8 = 3;
+
+const SAY: u8 = 8;
+
+const MY_ID: u8 = 11;
 
 /// The register of a kernel call's byte argument.
 const BYTE: u8 = 24;
@@ -167,21 +174,27 @@ impl PlainRunner {
         self.go_on()
     }
 
-    fn kernel_call(&mut self, run: &Running, k: &mut Kernel, lines: &mut Lines) -> UnitEnd
+    fn kernel_call(
+        &mut self,
+        number: u8,
+        run: &Running,
+        k: &mut Kernel,
+        lines: &mut Lines,
+    ) -> UnitEnd
+        requires built { IsBuilt (Unit.KernelCall number) }
         requires unit { self.old.unit < 2048 }
         requires room { length lines.old + 8 ≤ 512 }
-        ensures kernel { k.new ≡ (act_unit (Unit.KernelCall 8) run.now k.old self.old).kernel }
-        ensures runner { self.new ≡ (act_unit (Unit.KernelCall 8) run.now k.old self.old).runner }
-        ensures lines { lines.new ≡ lines.old ++ (act_unit (Unit.KernelCall 8) run.now k.old self.old).lines }
-        ensures ending { result ≡ (act_unit (Unit.KernelCall 8) run.now k.old self.old).ending }
+        ensures kernel { k.new ≡ (act_unit (Unit.KernelCall number) run.now k.old self.old).kernel }
+        ensures runner { self.new ≡ (act_unit (Unit.KernelCall number) run.now k.old self.old).runner }
+        ensures lines { lines.new ≡ lines.old ++ (act_unit (Unit.KernelCall number) run.now k.old self.old).lines }
+        ensures ending { result ≡ (act_unit (Unit.KernelCall number) run.now k.old self.old).ending }
     {
-        let byte = k.cpu().register(BYTE);
-        lines.add(TraceLine::Say {
-            time: k.clock(),
-            id: k.id_at(run.domain),
-            byte,
-        });
-        k.answer(0);
+        match number {
+            POST_SHORT => k.post_short(run),
+            SAY => say(run, k, lines),
+            MY_ID => k.answer(u16::from(k.id_at(run.domain))),
+            _ => unreachable!(),
+        }
         self.go_on()
     }
 
@@ -202,7 +215,7 @@ impl PlainRunner {
                 self.go_on()
             }
             Unit::Store(instruction) => self.store(instruction, run, k),
-            Unit::KernelCall(_) => self.kernel_call(run, k, lines),
+            Unit::KernelCall(number) => self.kernel_call(*number, run, k, lines),
             Unit::Return => {
                 let sp = k.cpu().sp();
                 if sp == run.base {
@@ -229,6 +242,21 @@ impl PlainRunner {
             None => unreachable!(),
         }
     }
+}
+
+// Writes the line of a byte that the module says.
+fn say(run: &Running, k: &mut Kernel, lines: &mut Lines)
+    requires { length lines.old + 8 ≤ 512 }
+    ensures kernel { k.new ≡ answered k.old 0 }
+    ensures lines { lines.new ≡ lines.old ++ TraceLine.Say k.old.clock (id_at k.old.modules run.now.domain) (register k.old.processor 24) ∷ [] }
+{
+    let byte = k.cpu().register(BYTE);
+    lines.add(TraceLine::Say {
+        time: k.clock(),
+        id: k.id_at(run.domain),
+        byte,
+    });
+    k.answer(0);
 }
 
 // A load of a constant, or a copy of a register.
