@@ -1,0 +1,10 @@
+pub mod Ends
+pub mod Errors
+pub mod Items
+pub mod Kinds
+pub mod Lengths
+pub mod Listing
+pub mod Proper
+pub mod Refusals
+pub mod Targets
+pub mod Units

@@ -1,0 +1,1 @@
+//! The units of known code.
