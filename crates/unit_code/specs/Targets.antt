@@ -1,5 +1,5 @@
 -- Unit numbers: which unit begins at a word, and where an offset leads.
-use Rattle.std.specs.Prelude.{ℕ, ◌+◌, ◌-◌, ◌<◌, ◌==◌, nat_le, List, length, slice_index, Option, Some, None, ℤ, pos, negsuc, if◌then◌else◌, option_and_then}
+use Rattle.std.specs.Prelude.{ℕ, ◌+◌, ◌-◌, ◌<◌, ◌≤◌, ◌==◌, nat_le, List, length, slice_index, Option, Some, None, ℤ, pos, negsuc, if◌then◌else◌}
 use Rattle.std.specs.List.{position}
 
 -- The word to which an offset leads from a place, counted from the word behind it (AVR Instruction Set Manual, "RJMP").
@@ -16,6 +16,7 @@ abbrev pub number_reached : List ℕ → Option ℕ → Option ℕ
 number_reached places None = None
 number_reached places (Some word) = number_of places word
 
--- each place lies before those behind it
-abbrev pub Rises : List ℕ → Type 0
-Rises places = (i j : ℕ) → i < j → j < length places → slice_index places i < slice_index places j
+-- The first words of units: each lies before the next, and there are few enough to be numbered.
+pub record AreFirstWords (places : List ℕ) : Type 0 where
+  pub rise : (i j : ℕ) → i < j → j < length places → slice_index places i < slice_index places j
+  pub few : length places ≤ 65535

@@ -59,6 +59,7 @@ fn word_at(code: &Words<'_>, index: usize) -> Option<u16>
 }
 
 /// What stands at a word with those behind it, and how many of these belong to it.
+#[tactic(auto, unfolding(crate::specs::Items::found))]
 fn found(first: u16, second: Option<u16>, third: Option<u16>) -> (Standing, u8)
     ensures { result ≡ found first second third }
 {
@@ -100,5 +101,9 @@ pub fn places(alloc: Global, items: &[Item]) -> Result<Vec<u16>, CodeError>
     ensures places { IfOk result (λ places. places.items ≡ map (λ item. item.place) items.now) }
     ensures memory { IfErr result (λ e. e ≡ CodeError.NoMemory) }
 {
-    Ok(items.iter().map(|item| item.place).collect(alloc)?)
+    let mut places = Vec::new(alloc);
+    for item in items {
+        places.push(item.place)?;
+    }
+    Ok(places)
 }

@@ -46,6 +46,7 @@ const SPH_PORT: u8 = 0x3E;
 const SREG_PORT: u8 = 0x3F;
 
 /// What an instruction outside of a group stands for.
+#[tactic(auto, unfolding(crate::specs::Kinds::standing_of))]
 pub fn standing_of(instruction: Instr) -> Standing
     ensures { result ≡ standing_of instruction }
 {

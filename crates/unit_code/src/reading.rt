@@ -2,7 +2,7 @@
 
 ghost use Rattle.std.specs.Prelude.{◌≡◌, ◌⊎◌, ◌≤◌, length, map, IfOk, IfErr};
 ghost use Rattle.std.specs.List.{filter_map};
-ghost use Rattle.unit_code.specs.Targets.{Rises, number_of};
+ghost use Rattle.unit_code.specs.Targets.{AreFirstWords, number_of};
 ghost use Rattle.unit_code.specs.Units.{listed, refusal, to_unit, unit_of};
 
 use crate::error::CodeError;
@@ -43,8 +43,7 @@ pub fn units(alloc: Global, code: &Words<'_>, marks: &[u16]) -> Result<UnitList,
 
 /// The units of the items, with unit numbers for targets.
 fn resolved(alloc: Global, items: &[Item], places: &[u16]) -> Result<Vec<Unit>, CodeError>
-    requires rises { Rises places.now }
-    requires count { length places.now ≤ 65535 }
+    requires { AreFirstWords places.now }
     ensures units { IfOk result (λ units. units.items ≡ filter_map (unit_of places.now) items.now) }
     ensures memory { IfErr result (λ e. e ≡ CodeError.NoMemory) }
 {
@@ -59,8 +58,7 @@ fn resolved(alloc: Global, items: &[Item], places: &[u16]) -> Result<Vec<Unit>, 
 
 /// The unit of an item, if it is one and its target is a unit.
 fn unit_of(places: &[u16], item: &Item) -> Option<Unit>
-    requires rises { Rises places.now }
-    requires count { length places.now ≤ 65535 }
+    requires { AreFirstWords places.now }
     ensures { result ≡ unit_of places.now item.now }
 {
     match item.standing {
@@ -85,8 +83,7 @@ fn to_unit(aim: Aim, target: u16) -> Unit
 
 /// The numbers of the units that begin at the marks.
 fn numbers(alloc: Global, places: &[u16], marks: &[u16]) -> Result<Vec<u16>, CodeError>
-    requires rises { Rises places.now }
-    requires count { length places.now ≤ 65535 }
+    requires { AreFirstWords places.now }
     ensures numbers { IfOk result (λ numbers. numbers.items ≡ filter_map (number_of places.now) marks.now) }
     ensures memory { IfErr result (λ e. e ≡ CodeError.NoMemory) }
 {

@@ -1,9 +1,9 @@
 //! The conditions under which words are refused.
 
 ghost use Rattle.std.specs.Prelude.{◌≡◌, ◌≤◌, ◌==◌, drop, length};
-ghost use Rattle.unit_code.specs.Ends.{goes_on, leaves, overlong, long_length};
-ghost use Rattle.unit_code.specs.Refusals.{first_refused, is_group, may_skip, misaimed, refused_by, refused_at, refusal_of_items, refusal_of_units, stray, least_stray};
-ghost use Rattle.unit_code.specs.Targets.{Rises, number_of};
+ghost use Rattle.unit_code.specs.Ends.{goes_on, leaves, long_length};
+ghost use Rattle.unit_code.specs.Refusals.{first_refused, is_group, lesser, may_skip, misaimed, refusal_of_items, refusal_of_units, refused_by, stray_mark};
+ghost use Rattle.unit_code.specs.Targets.{AreFirstWords, number_of};
 
 use crate::error::CodeError;
 use crate::items::Item;
@@ -21,9 +21,9 @@ enum Condition {
 }
 
 /// The first of the conditions on single words that holds, at its least word.
+#[tactic(auto, unfolding(crate::specs::Refusals::refusal_of_items))]
 pub fn refusal_of_items(items: &[Item], places: &[u16]) -> Option<CodeError>
-    requires rises { Rises places.now }
-    requires count { length places.now ≤ 65535 }
+    requires { AreFirstWords places.now }
     ensures { result ≡ refusal_of_items places.now items.now }
 {
     if let Some(refusal) = first_refused(Condition::NoInstruction, items, places) {
@@ -37,8 +37,7 @@ pub fn refusal_of_items(items: &[Item], places: &[u16]) -> Option<CodeError>
 
 /// Where the condition first holds.
 fn first_refused(condition: Condition, items: &[Item], places: &[u16]) -> Option<CodeError>
-    requires rises { Rises places.now }
-    requires count { length places.now ≤ 65535 }
+    requires { AreFirstWords places.now }
     ensures { result ≡ first_refused (refused_by condition places.now) items.now }
 {
     for i in 0..items.len() {
@@ -52,8 +51,7 @@ fn first_refused(condition: Condition, items: &[Item], places: &[u16]) -> Option
 
 /// Whether the condition holds of the first of these items, with those behind it.
 fn refused_by(condition: Condition, places: &[u16], items: &[Item]) -> Option<CodeError>
-    requires rises { Rises places.now }
-    requires count { length places.now ≤ 65535 }
+    requires { AreFirstWords places.now }
     ensures { result ≡ refused_by condition places.now items.now }
 {
     let [item, behind @ ..] = items else {
@@ -69,8 +67,7 @@ fn refused_by(condition: Condition, places: &[u16], items: &[Item]) -> Option<Co
 }
 
 fn misaimed(piece: Piece, place: u16, places: &[u16], behind: &[Item]) -> Option<CodeError>
-    requires rises { Rises places.now }
-    requires count { length places.now ≤ 65535 }
+    requires { AreFirstWords places.now }
     ensures { result ≡ misaimed piece place places.now behind.now }
 {
     let sound = match piece {
@@ -105,6 +102,7 @@ fn is_group(standing: Standing) -> bool
 }
 
 /// The first of the conditions on the list of units that holds.
+#[tactic(auto, unfolding(crate::specs::Refusals::refusal_of_units))]
 pub fn refusal_of_units(units: &[Unit]) -> Option<CodeError>
     requires { length units.now ≤ 65535 }
     ensures { result ≡ refusal_of_units units.now }
@@ -150,9 +148,9 @@ fn long_length(units: &[Unit]) -> u32
 }
 
 /// The least mark at which no unit begins.
+#[tactic(auto, unfolding(crate::specs::Refusals::stray_mark))]
 pub fn stray_mark(places: &[u16], marks: &[u16]) -> Option<CodeError>
-    requires rises { Rises places.now }
-    requires count { length places.now ≤ 65535 }
+    requires { AreFirstWords places.now }
     ensures { result ≡ stray_mark places.now marks.now }
 {
     let mut least = None;
