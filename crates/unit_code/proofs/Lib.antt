@@ -1,3 +1,5 @@
+pub mod FirstRefused
+pub mod Last
 pub mod Marks
 pub mod Numbers
 pub mod Places
