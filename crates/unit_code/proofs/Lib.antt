@@ -1,3 +1,4 @@
+pub mod Chain
 pub mod FirstRefused
 pub mod Last
 pub mod Marks

@@ -40,6 +40,9 @@ few over place [] = omega arith
 few zero place (w ∷ ws) = let behind = few ((found w (next_word ws) (next_word (drop 1 ws))).1) (place + 1) ws in omega (arith, behind)
 few (suc over) place (w ∷ ws) = let behind = few over (place + 1) ws in omega (arith, behind)
 
+pub few_items : (words : List ℕ) → length (items_of words) ≤ length words
+few_items words = few 0 0 words
+
 -- the places of the words' items
 pub places_are_first_words : (words : List ℕ) → length words ≤ 65535 → AreFirstWords (places_in (items_of words))
 places_are_first_words words small = record {

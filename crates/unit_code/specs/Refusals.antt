@@ -62,15 +62,15 @@ refusal_of_items places items =
     or_else (first_refused (refused_by condition.NoInstruction places) items)
     (or_else (first_refused (refused_by condition.Barred places) items) (first_refused (refused_by condition.Misaimed places) items))
 
-abbrev pub is_nil : List Unit → Bool
-is_nil [] = true
-is_nil (u ∷ us) = false
+abbrev pub is_empty : List ℕ → Bool
+is_empty [] = true
+is_empty (w ∷ ws) = false
 
 -- FallsOff, Empty and TooLong: the first of them that holds
-unfoldable pub refusal_of_units : List Unit → Option CodeError
-refusal_of_units us =
+unfoldable pub refusal_of_units : List ℕ → List Unit → Option CodeError
+refusal_of_units words us =
     if goes_on us then Some FallsOff
-    else (if is_nil us then Some Empty
+    else (if is_empty words then Some Empty
     else (if nat_lt bank_words (long_length us) then Some (TooLong (min (long_length us) 65535)) else None))
 
 abbrev pub lesser : Option ℕ → ℕ → Option ℕ

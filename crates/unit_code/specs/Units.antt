@@ -41,7 +41,7 @@ units_of words = filter_map (unit_of (places_of words)) (items_of words)
 unfoldable pub refusal : List ℕ → List ℕ → Option CodeError
 refusal words marks =
     or_else (refusal_of_items (places_of words) (items_of words))
-    (or_else (refusal_of_units (units_of words)) (stray_mark (places_of words) marks))
+    (or_else (refusal_of_units words (units_of words)) (stray_mark (places_of words) marks))
 
 -- What is told of words that are not refused.
 unfoldable pub listed : List ℕ → List ℕ → Listing

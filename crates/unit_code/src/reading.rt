@@ -2,6 +2,7 @@
 
 ghost use Rattle.std.specs.Prelude.{◌≡◌, ◌⊎◌, ◌≤◌, length, map, IfOk, IfErr};
 ghost use Rattle.std.specs.List.{filter_map};
+ghost use Rattle.unit_code.specs.Proper.{IsProper};
 ghost use Rattle.unit_code.specs.Targets.{AreFirstWords, number_of};
 ghost use Rattle.unit_code.specs.Units.{listed, refusal, to_unit, unit_of};
 
@@ -16,7 +17,20 @@ use mote_base::Words;
 use std::alloc::Global;
 
 /// The units of the words, with the unit numbers of the marks.
+///
+/// The words are at most 65,535, so that a place is a u16. A mark is a word of the code at which it is entered.
 pub fn units(alloc: Global, code: &Words<'_>, marks: &[u16]) -> Result<UnitList, CodeError>
+    requires { length code.now ≤ 65535 }
+    ensures ok { IfOk result (λ list. (refusal code.now marks.now ≡ None) × (list ≡ listed code.now marks.now)) }
+    ensures err { IfErr result (λ e. (e ≡ CodeError.NoMemory) ⊎ (refusal code.now marks.now ≡ Some e)) }
+
+    // What the list is like, and why it is refused, in the words of the conditions.
+    ensures proper { IfOk result (λ list. IsProper list.units) }
+{
+    listing(alloc, code, marks)
+}
+
+fn listing(alloc: Global, code: &Words<'_>, marks: &[u16]) -> Result<UnitList, CodeError>
     requires { length code.now ≤ 65535 }
     ensures ok { IfOk result (λ list. (refusal code.now marks.now ≡ None) × (list ≡ listed code.now marks.now)) }
     ensures err { IfErr result (λ e. (e ≡ CodeError.NoMemory) ⊎ (refusal code.now marks.now ≡ Some e)) }
@@ -27,7 +41,7 @@ pub fn units(alloc: Global, code: &Words<'_>, marks: &[u16]) -> Result<UnitList,
         return Err(refusal);
     }
     let units = resolved(alloc, &items, &places)?;
-    if let Some(refusal) = refusal_of_units(&units) {
+    if let Some(refusal) = refusal_of_units(code, &units) {
         return Err(refusal);
     }
     if let Some(refusal) = stray_mark(&places, marks) {

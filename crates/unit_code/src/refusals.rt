@@ -2,7 +2,7 @@
 
 ghost use Rattle.std.specs.Prelude.{◌≡◌, ◌≤◌, ◌==◌, drop, length};
 ghost use Rattle.unit_code.specs.Ends.{goes_on, leaves, long_length};
-ghost use Rattle.unit_code.specs.Refusals.{first_refused, is_group, lesser, may_skip, misaimed, refusal_of_items, refusal_of_units, refused_by, stray_mark};
+ghost use Rattle.unit_code.specs.Refusals.{first_refused, is_empty, is_group, lesser, may_skip, misaimed, refusal_of_items, refusal_of_units, refused_by, stray_mark};
 ghost use Rattle.unit_code.specs.Targets.{AreFirstWords, number_of};
 
 use crate::error::CodeError;
@@ -10,6 +10,7 @@ use crate::items::Item;
 use crate::kinds::{Piece, Standing};
 use crate::targets::{number_of, number_reached};
 use crate::unit::{Shape, Unit, spelled_len};
+use mote_base::Words;
 use mote_layout::BANK_WORDS;
 
 /// The conditions that name a word of the code.
@@ -103,14 +104,14 @@ fn is_group(standing: Standing) -> bool
 
 /// The first of the conditions on the list of units that holds.
 #[tactic(auto, unfolding(crate::specs::Refusals::refusal_of_units))]
-pub fn refusal_of_units(units: &[Unit]) -> Option<CodeError>
+pub fn refusal_of_units(code: &Words<'_>, units: &[Unit]) -> Option<CodeError>
     requires { length units.now ≤ 65535 }
-    ensures { result ≡ refusal_of_units units.now }
+    ensures { result ≡ refusal_of_units code.now units.now }
 {
     if goes_on(units) {
         return Some(CodeError::FallsOff);
     }
-    if units.is_empty() {
+    if is_empty(code) {
         return Some(CodeError::Empty);
     }
     let words = long_length(units);
@@ -118,6 +119,12 @@ pub fn refusal_of_units(units: &[Unit]) -> Option<CodeError>
         return Some(CodeError::TooLong(words.min(65535) as u16));
     }
     None
+}
+
+fn is_empty(code: &Words<'_>) -> bool
+    ensures { result ≡ is_empty code.now }
+{
+    code.len() == 0
 }
 
 /// Whether the last unit runs on past the end.
