@@ -4,4 +4,6 @@ pub mod Last
 pub mod Marks
 pub mod Numbers
 pub mod Places
+pub mod ProperUnits
 pub mod Rest
+pub mod SoundKinds

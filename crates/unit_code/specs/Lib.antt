@@ -6,5 +6,6 @@ pub mod Lengths
 pub mod Listing
 pub mod Proper
 pub mod Refusals
+pub mod Sound
 pub mod Targets
 pub mod Units

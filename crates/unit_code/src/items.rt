@@ -3,6 +3,7 @@
 ghost use Rattle.std.specs.Prelude.{◌≡◌, ◌+◌, ◌≤◌, drop, length, map, IfOk, IfErr};
 ghost use Rattle.avr_isa.specs.Decoded.{decoded};
 ghost use Rattle.unit_code.specs.Items.{found, is_word, items_of, next_word, read};
+ghost use Rattle.unit_code.specs.Sound.{AreSound, IsSound};
 
 use crate::error::CodeError;
 use crate::kinds::{Piece, Standing, standing_of};
@@ -27,6 +28,7 @@ const OUT_SPL: u16 = 0xBFCD;
 pub fn items_of(alloc: Global, code: &Words<'_>) -> Result<Vec<Item>, CodeError>
     requires { length code.now ≤ 65535 }
     ensures items { IfOk result (λ items. items.items ≡ items_of code.now) }
+    ensures sound { IfOk result (λ items. AreSound items.items) }
     ensures memory { IfErr result (λ e. e ≡ CodeError.NoMemory) }
 {
     let mut items = Vec::new(alloc);
@@ -61,7 +63,8 @@ fn word_at(code: &Words<'_>, index: usize) -> Option<u16>
 /// What stands at a word with those behind it, and how many of these belong to it.
 #[tactic(auto, unfolding(crate::specs::Items::found))]
 fn found(first: u16, second: Option<u16>, third: Option<u16>) -> (Standing, u8)
-    ensures { result ≡ found first second third }
+    ensures value { result ≡ found first second third }
+    ensures sound { IsSound result.0 }
 {
     if first == OUT_SPH && is_word(OUT_SREG, second) && is_word(OUT_SPL, third) {
         (group(true), 2)
@@ -87,8 +90,10 @@ fn group(with_sreg: bool) -> Standing
     Standing::Part(Piece::Whole(Unit::SpGroup { with_sreg }))
 }
 
+#[tactic(auto, using(crate::proofs::SoundKinds::standing_is_sound))]
 fn read(first: u16, second: Option<u16>) -> (Standing, u8)
-    ensures { result ≡ read (decoded first second) }
+    ensures value { result ≡ read (decoded first second) }
+    ensures sound { IsSound result.0 }
 {
     match decode(first, second) {
         Ok((instruction, count)) => (standing_of(instruction), count - 1),

@@ -2,7 +2,9 @@
 
 ghost use Rattle.std.specs.Prelude.{◌≡◌, ◌⊎◌, ◌≤◌, length, map, IfOk, IfErr};
 ghost use Rattle.std.specs.List.{filter_map};
+ghost use Rattle.unit_code.specs.Items.{items_of};
 ghost use Rattle.unit_code.specs.Proper.{IsProper};
+ghost use Rattle.unit_code.specs.Sound.{AreSound};
 ghost use Rattle.unit_code.specs.Targets.{AreFirstWords, number_of};
 ghost use Rattle.unit_code.specs.Units.{listed, refusal, to_unit, unit_of};
 
@@ -19,6 +21,7 @@ use std::alloc::Global;
 /// The units of the words, with the unit numbers of the marks.
 ///
 /// The words are at most 65,535, so that a place is a u16. A mark is a word of the code at which it is entered.
+#[tactic(auto, using(crate::proofs::ProperUnits::proper_listed))]
 pub fn units(alloc: Global, code: &Words<'_>, marks: &[u16]) -> Result<UnitList, CodeError>
     requires { length code.now ≤ 65535 }
     ensures ok { IfOk result (λ list. (refusal code.now marks.now ≡ None) × (list ≡ listed code.now marks.now)) }
@@ -34,6 +37,7 @@ fn listing(alloc: Global, code: &Words<'_>, marks: &[u16]) -> Result<UnitList, C
     requires { length code.now ≤ 65535 }
     ensures ok { IfOk result (λ list. (refusal code.now marks.now ≡ None) × (list ≡ listed code.now marks.now)) }
     ensures err { IfErr result (λ e. (e ≡ CodeError.NoMemory) ⊎ (refusal code.now marks.now ≡ Some e)) }
+    ensures sound { IfOk result (λ list. AreSound (items_of code.now)) }
 {
     let items = items_of(alloc, code)?;
     let places = places(alloc, &items)?;
