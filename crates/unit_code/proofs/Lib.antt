@@ -1,4 +1,7 @@
+pub mod Astray
 pub mod Chain
+pub mod FirstItem
+pub mod FirstLaw
 pub mod FirstRefused
 pub mod Last
 pub mod Marks
@@ -7,3 +10,4 @@ pub mod Places
 pub mod ProperUnits
 pub mod Rest
 pub mod SoundKinds
+pub mod Strays

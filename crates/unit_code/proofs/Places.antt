@@ -40,6 +40,9 @@ few over place [] = omega arith
 few zero place (w ∷ ws) = let behind = few ((found w (next_word ws) (next_word (drop 1 ws))).1) (place + 1) ws in omega (arith, behind)
 few (suc over) place (w ∷ ws) = let behind = few over (place + 1) ws in omega (arith, behind)
 
+pub places_rise : (words : List ℕ) (i j : ℕ) → i < j → j < length (places_in (items_of words)) → get_or (places_in (items_of words)) i 0 < get_or (places_in (items_of words)) j 0
+places_rise words = (rising 0 0 words).rise
+
 pub few_items : (words : List ℕ) → length (items_of words) ≤ length words
 few_items words = few 0 0 words
 

@@ -32,7 +32,7 @@ pub neither : (a b : Option CodeError) → or_else a b ≡ None → (a ≡ None)
 neither (Some e) b h = cc
 neither None b h = (refl, h)
 
-refused_when : (b : Bool) (e : CodeError) (other : Option CodeError) → cond b (Some e) other ≡ None → (b ≡ false) × (other ≡ None)
+pub refused_when : (b : Bool) (e : CodeError) (other : Option CodeError) → cond b (Some e) other ≡ None → (b ≡ false) × (other ≡ None)
 refused_when true e other h = cc
 refused_when false e other h = (refl, h)
 

@@ -2,6 +2,7 @@ pub mod Ends
 pub mod Errors
 pub mod Items
 pub mod Kinds
+pub mod Law
 pub mod Lengths
 pub mod Listing
 pub mod Proper

@@ -1,8 +1,9 @@
 //! From words to units.
 
-ghost use Rattle.std.specs.Prelude.{◌≡◌, ◌⊎◌, ◌≤◌, length, map, IfOk, IfErr};
+ghost use Rattle.std.specs.Prelude.{◌≡◌, ◌⊎◌, ◌≤◌, length, map, IfOk, IfErr, MatchResult};
 ghost use Rattle.std.specs.List.{filter_map};
 ghost use Rattle.unit_code.specs.Items.{items_of};
+ghost use Rattle.unit_code.specs.Law.{IsFirst, NoneHolds};
 ghost use Rattle.unit_code.specs.Proper.{IsProper};
 ghost use Rattle.unit_code.specs.Sound.{AreSound};
 ghost use Rattle.unit_code.specs.Targets.{AreFirstWords, number_of};
@@ -29,6 +30,7 @@ pub fn units(alloc: Global, code: &Words<'_>, marks: &[u16]) -> Result<UnitList,
 
     // What the list is like, and why it is refused, in the words of the conditions.
     ensures proper { IfOk result (λ list. IsProper list.units) }
+    ensures first { MatchResult result (λ _. NoneHolds code.now marks.now) (λ e. (e ≡ CodeError.NoMemory) ⊎ IsFirst code.now marks.now e) }
 {
     listing(alloc, code, marks)
 }
