@@ -1,5 +1,5 @@
 -- Targets that are no unit's first word, as the conditions test them.
-use Rattle.std.proofs.Common.{◌≡◌, ◌∙◌, ℕ, ◌<◌, not, Bool, true, false, List, [], ◌∷◌, length, get_or, Option, Some, None, is_some, sym, refl, ap}
+use Rattle.std.proofs.Common.{◌≡◌, ◌∙◌, ℕ, not, true, false, List, [], ◌∷◌, get_or, Option, Some, None, is_some, sym, refl, ap}
 use Rattle.std.specs.List.{Contains}
 use Rattle.std.proofs.lemmas.List.{get_or_default}
 use Rattle.unit_code.specs.declared.unit.Unit.TheVariants.{Skip}

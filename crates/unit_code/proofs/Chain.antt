@@ -1,5 +1,5 @@
 -- Each step of the reading, and what it says of the words as a whole.
-use Rattle.std.proofs.Common.{◌≡◌, ◌∙◌, ℕ, suc, ◌≤◌, List, length, map, Option, Some, None, sym, refl, ap, arith}
+use Rattle.std.proofs.Common.{◌≡◌, ◌∙◌, ℕ, suc, ◌≤◌, List, length, Option, Some, None, sym, ap, arith}
 use Rattle.std.specs.List.{cons_option, filter_map}
 use Rattle.std.specs.Prelude.{[], ◌∷◌}
 use Rattle.unit_code.specs.declared.error.CodeError.{CodeError}

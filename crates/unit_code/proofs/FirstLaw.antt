@@ -1,7 +1,6 @@
 -- The refusal of words is the first condition that holds, at its least word; without one, none holds.
-use Rattle.std.proofs.Common.{◌≡◌, ◌≢◌, ◌∙◌, ℕ, suc, ◌+◌, ◌<◌, ◌≤◌, min, cond, ltb, Bool, true, false, List, [], ◌∷◌, length, drop, Option, Some, None, sym, refl, ap, subst, inl, inr, ⊎_elim, ◌⊎◌, arith}
+use Rattle.std.proofs.Common.{◌≡◌, ◌∙◌, ℕ, ◌+◌, ◌<◌, ◌≤◌, min, cond, ltb, Bool, true, false, List, [], ◌∷◌, length, drop, Option, Some, None, sym, refl, ap, subst, inl, inr, ⊎_elim, ◌⊎◌, arith}
 use Rattle.std.specs.Prelude.{IfErr, IfOk, MatchResult, Result, Ok, Err, option_map}
-use Rattle.std.specs.List.{Contains}
 use Rattle.std.proofs.lemmas.Bool.{cases_lt, lt-ltb, ltb-true}
 use Rattle.mote_layout.specs.Memory.{bank_words}
 use Rattle.unit_code.specs.declared.error.CodeError.{CodeError}
@@ -12,11 +11,10 @@ use Rattle.unit_code.specs.declared.kinds.Piece.{Piece}
 use Rattle.unit_code.specs.declared.items.Item.{Item}
 use Rattle.unit_code.specs.declared.refusals.Condition.{Condition}
 use Rattle.unit_code.specs.declared.refusals.Condition.TheVariants as condition
-use Rattle.unit_code.specs.declared.unit.Unit.{Unit}
 use Rattle.unit_code.specs.Ends.{goes_on, long_length}
 use Rattle.unit_code.specs.Errors.{error_word}
 use Rattle.unit_code.specs.Items.{items_of}
-use Rattle.unit_code.specs.Law.{Holds, IsFirst, IsNoLater, LeadsAstray, NoneHolds, order}
+use Rattle.unit_code.specs.Law.{Holds, IsFirst, LeadsAstray, NoneHolds, order}
 use Rattle.unit_code.specs.Refusals.{first_refused, is_empty, leads, least_stray, or_else, refused_by, refusal_of_items, refusal_of_units, stray_mark}
 use Rattle.unit_code.specs.Targets.{AreFirstWords}
 use Rattle.unit_code.specs.Units.{places_of, refusal, units_of}
@@ -34,18 +32,18 @@ clear_more : (words marks : List ℕ) (n : ℕ) → Clear words marks n → ((ot
 unfolding Clear
 clear_more words marks n clear not_here = λ other holds.
     ⊎_elim (λ (below : n < order other). omega (arith, below))
-           (λ (past : order other ≤ n). absurd (not_here other holds (omega (arith, past, clear other holds))))
-           (cases_lt n (order other))
+    (λ (past : order other ≤ n). absurd (not_here other holds (omega (arith, past, clear other holds))))
+    (cases_lt n (order other))
 
 first_from : (words marks : List ℕ) (n : ℕ) (e : CodeError) → Clear words marks n → order e ≡ n → Holds words marks e → ((other : CodeError) → Holds words marks other → order other ≡ n → error_word e ≤ error_word other) → IsFirst words marks e
 unfolding Clear
 first_from words marks n e clear here holds least = record {
-    holds = holds;
-    first = λ other h.
-        ⊎_elim (λ (below : n < order other). inl (omega (arith, below, here)))
-               (λ (past : order other ≤ n). let same : order other ≡ n = omega (arith, past, clear other h) in inr (omega (arith, same, here), least other h same))
-               (cases_lt n (order other));
-  }
+  holds = holds;
+  first = λ other h.
+      ⊎_elim (λ (below : n < order other). inl (omega (arith, below, here)))
+      (λ (past : order other ≤ n). let same : order other ≡ n = omega (arith, past, clear other h) in inr (omega (arith, same, here), least other h same))
+      (cases_lt n (order other));
+}
 
 some_order : (words marks : List ℕ) (other : CodeError) → Holds words marks other → 1 ≤ order other
 some_order words marks NoMemory h = absurd h
@@ -269,10 +267,10 @@ module _ (words marks : List ℕ) (small : length words ≤ 65535) where
       let two = test_2 words marks in
       let three = test_3 words marks in
       ⊎_elim (λ here. first_1 words marks e here)
-             (λ past. ⊎_elim (λ here. first_2 words marks e (clear_2 words marks past.0) here)
-                             (λ last. first_3 words marks e first_words (clear_3 words marks (clear_2 words marks past.0) last.0) last.1)
-                             (which (first_refused two items) (first_refused three items) e past.1))
-             (which (first_refused one items) (or_else (first_refused two items) (first_refused three items)) e is)
+      (λ past. ⊎_elim (λ here. first_2 words marks e (clear_2 words marks past.0) here)
+      (λ last. first_3 words marks e first_words (clear_3 words marks (clear_2 words marks past.0) last.0) last.1)
+      (which (first_refused two items) (first_refused three items) e past.1))
+      (which (first_refused one items) (or_else (first_refused two items) (first_refused three items)) e is)
 
   clear_items : refusal_of_items (places_of words) (items_of words) ≡ None → Clear words marks 4
   unfolding refusal_of_items
@@ -293,14 +291,14 @@ module _ (words marks : List ℕ) (small : length words ≤ 65535) where
       let third = cond (ltb bank_words (long_length us)) (Some (TooLong (min (long_length us) 65535))) None in
       let second = cond (is_empty words) (Some Empty) third in
       ⊎_elim (λ here. subst P here.1 (first_4 words marks clear here.0))
-             (λ past. let clear_5 = clear_5 words marks clear past.0 in
-                 ⊎_elim (λ here. subst P here.1 (first_5 words marks clear_5 here.0))
-                        (λ rest. let clear_6 = clear_6 words marks clear_5 rest.0 in
-                            ⊎_elim (λ here. subst P here.1 (first_6 words marks clear_6 here.0))
-                                   (λ last. absurd (none_some e last.1))
-                                   (choice (ltb bank_words (long_length us)) (TooLong (min (long_length us) 65535)) None e rest.1))
-                        (choice (is_empty words) Empty third e past.1))
-             (choice (goes_on us) FallsOff second e is)
+      (λ past. let clear_5 = clear_5 words marks clear past.0 in
+      ⊎_elim (λ here. subst P here.1 (first_5 words marks clear_5 here.0))
+      (λ rest. let clear_6 = clear_6 words marks clear_5 rest.0 in
+      ⊎_elim (λ here. subst P here.1 (first_6 words marks clear_6 here.0))
+      (λ last. absurd (none_some e last.1))
+      (choice (ltb bank_words (long_length us)) (TooLong (min (long_length us) 65535)) None e rest.1))
+      (choice (is_empty words) Empty third e past.1))
+      (choice (goes_on us) FallsOff second e is)
 
   clear_units : Clear words marks 4 → refusal_of_units words (units_of words) ≡ None → Clear words marks 7
   unfolding refusal_of_units
@@ -317,17 +315,17 @@ module _ (words marks : List ℕ) (small : length words ≤ 65535) where
   first_of_marks e clear is =
       let P : CodeError → Type 0 = IsFirst words marks in
       elim (least_stray (places_of words) marks) as (λ o. least_stray (places_of words) marks ≡ o → option_map Entry o ≡ Some e → IsFirst words marks e) [
-          None ↦ λ at so. absurd (none_some e so)
+        | None ↦ λ at so. absurd (none_some e so)
         | Some w ↦ λ at so. let same : Entry w ≡ e = cc in subst P same (first_7 words marks w first_words clear at)
-        ] refl is
+      ] refl is
 
   clear_marks : Clear words marks 7 → stray_mark (places_of words) marks ≡ None → Clear words marks 8
   unfolding stray_mark
   clear_marks clear none =
       elim (least_stray (places_of words) marks) as (λ o. least_stray (places_of words) marks ≡ o → option_map Entry o ≡ None → Clear words marks 8) [
-          None ↦ λ at so. clear_8 words marks clear at
+        | None ↦ λ at so. clear_8 words marks clear at
         | Some w ↦ λ at so. absurd (none_some (Entry w) (sym so))
-        ] refl none
+      ] refl none
 
 -- the refusal is the first condition that holds
 pub refusal_is_first : (words marks : List ℕ) (e : CodeError) → length words ≤ 65535 → refusal words marks ≡ Some e → IsFirst words marks e
@@ -335,11 +333,11 @@ unfolding refusal
 refusal_is_first words marks e small is =
     let rest = or_else (refusal_of_units words (units_of words)) (stray_mark (places_of words) marks) in
     ⊎_elim (λ here. first_of_items words marks small e here)
-           (λ past. let clear = clear_items words marks small past.0 in
-               ⊎_elim (λ here. first_of_units words marks small e clear here)
-                      (λ last. first_of_marks words marks small e (clear_units words marks small clear last.0) last.1)
-                      (which (refusal_of_units words (units_of words)) (stray_mark (places_of words) marks) e past.1))
-           (which (refusal_of_items (places_of words) (items_of words)) rest e is)
+    (λ past. let clear = clear_items words marks small past.0 in
+    ⊎_elim (λ here. first_of_units words marks small e clear here)
+    (λ last. first_of_marks words marks small e (clear_units words marks small clear last.0) last.1)
+    (which (refusal_of_units words (units_of words)) (stray_mark (places_of words) marks) e past.1))
+    (which (refusal_of_items (places_of words) (items_of words)) rest e is)
 
 -- where there is no refusal no condition holds
 pub no_refusal_none_holds : (words marks : List ℕ) → length words ≤ 65535 → refusal words marks ≡ None → NoneHolds words marks

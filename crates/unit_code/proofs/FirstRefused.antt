@@ -1,5 +1,5 @@
 -- The first item at which a condition holds, looked for from the front.
-use Rattle.std.proofs.Common.{◌≡◌, ◌∙◌, ℕ, zero, suc, ◌+◌, ◌<◌, List, [], ◌∷◌, length, drop, Option, Some, None, sym, refl, ap, arith}
+use Rattle.std.proofs.Common.{◌≡◌, ◌∙◌, ℕ, zero, suc, ◌+◌, ◌<◌, List, [], ◌∷◌, length, drop, Option, None, sym, ap, arith}
 use Rattle.unit_code.specs.declared.error.CodeError.{CodeError}
 use Rattle.unit_code.specs.declared.items.Item.{Item}
 use Rattle.unit_code.specs.Refusals.{first_refused, or_else}

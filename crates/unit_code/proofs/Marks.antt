@@ -1,6 +1,6 @@
 -- The least of marks, found one after the other.
 use Rattle.std.proofs.Common.{◌≡◌, ℕ, Option, Some, None, refl, ap, arith}
-use Rattle.unit_code.specs.Refusals.{lesser, least_stray}
+use Rattle.unit_code.specs.Refusals.{lesser}
 
 -- the least of a mark so far and the least of what is left
 abbrev pub least_of : Option ℕ → Option ℕ → Option ℕ

@@ -1,6 +1,5 @@
 -- The number of the unit that begins at a word.
-use Rattle.std.proofs.Common.{◌≡◌, ◌∙◌, ℕ, ◌<◌, ◌≤◌, ◌≢◌, cond, eqb, ltb, true, false, List, length, get_or, Option, Some, None, Result, Ok, Err, sym, refl, ap, eq-eqb, arith, ◌⊎◌, ⊎_elim}
-use Rattle.std.specs.List.{position_or_len}
+use Rattle.std.proofs.Common.{◌≡◌, ◌∙◌, ℕ, ◌<◌, ◌≤◌, ◌≢◌, cond, eqb, ltb, true, false, List, length, get_or, Some, None, Ok, Err, ap, eq-eqb, arith, ◌⊎◌, ⊎_elim}
 use Rattle.std.specs.List.Sorted.{IsBinarySearchResult}
 use Rattle.std.specs.Ordering.{nat_cmp}
 use Rattle.std.proofs.lemmas.Bool.{cases_lt, lt-ltb, le-ltb}
@@ -53,7 +52,7 @@ pub number_of-missed : (places : List ℕ) (word i : ℕ) → AreFirstWords plac
 number_of-missed places word i first answer =
     let at = searched places word (Err i) answer (rise_or_stay places first) in
     let apart : (k : ℕ) → k < length places → get_or places k 0 ≢ word = λ k within same.
-        ⊎_elim (λ (below : k < i). let less : get_or places k 0 < word = at.1 k below in absurd (omega (arith, less)))
-               (λ (past : i ≤ k). let more : word < get_or places k 0 = at.2 k past within in absurd (omega (arith, more)))
-               (cases_lt k i) in
+    ⊎_elim (λ (below : k < i). let less : get_or places k 0 < word = at.1 k below in absurd (omega (arith, less)))
+    (λ (past : i ≤ k). let more : word < get_or places k 0 = at.2 k past within in absurd (omega (arith, more)))
+    (cases_lt k i) in
     number_of-none places word apart

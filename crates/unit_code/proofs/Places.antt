@@ -1,5 +1,5 @@
 -- The places of items rise, and there are no more than words.
-use Rattle.std.proofs.Common.{◌≡◌, ◌∙◌, ℕ, zero, suc, ◌+◌, ◌<◌, ◌≤◌, List, [], ◌∷◌, length, get_or, drop, map, Option, sym, refl, ap, subst, arith}
+use Rattle.std.proofs.Common.{◌≡◌, ◌∙◌, ℕ, zero, suc, ◌+◌, ◌<◌, ◌≤◌, List, [], ◌∷◌, length, get_or, drop, map, sym, ap, subst, arith}
 use Rattle.std.proofs.Math.ListN.{length-map}
 use Rattle.unit_code.specs.declared.items.Item.{Item}
 use Rattle.unit_code.specs.Items.{found, items_from, items_of, next_word}
@@ -49,10 +49,10 @@ few_items words = few 0 0 words
 -- the places of the words' items
 pub places_are_first_words : (words : List ℕ) → length words ≤ 65535 → AreFirstWords (places_in (items_of words))
 places_are_first_words words small = record {
-    rise = (rising 0 0 words).rise;
-    few = let same : length (places_in (items_of words)) ≡ length (items_of words) = length-map (items_of words) (λ item. item.place) in
-          let less : length (items_of words) ≤ length words = few 0 0 words in omega (arith, same, less);
-  }
+  rise = (rising 0 0 words).rise;
+  few = let same : length (places_in (items_of words)) ≡ length (items_of words) = length-map (items_of words) (λ item. item.place) in
+      let less : length (items_of words) ≤ length words = few 0 0 words in omega (arith, same, less);
+}
 
 -- the same, of lists that are equal to them
 pub these_are_first_words : (words places : List ℕ) (items : List Item) → length words ≤ 65535 → items ≡ items_of words → places ≡ places_in items → AreFirstWords places

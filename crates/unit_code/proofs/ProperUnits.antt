@@ -1,5 +1,5 @@
 -- Words that are not refused have proper units.
-use Rattle.std.proofs.Common.{◌≡◌, ◌∙◌, ℕ, zero, suc, ◌+◌, ◌<◌, ◌≤◌, cond, not, ltb, Bool, true, false, List, [], ◌∷◌, length, map, drop, Option, Some, None, is_some, min, ℤ, sym, refl, ap, subst, arith}
+use Rattle.std.proofs.Common.{◌≡◌, ◌∙◌, ℕ, suc, ◌<◌, ◌≤◌, cond, not, ltb, Bool, true, false, List, [], ◌∷◌, length, Option, Some, None, is_some, min, ℤ, sym, refl, ap, subst, arith}
 use Rattle.std.specs.Prelude.{⊤, option_map}
 use Rattle.std.specs.List.{AllByRecursion, cons_option, filter_map}
 use Rattle.std.proofs.Math.ListN.{length-map}
@@ -11,7 +11,6 @@ use Rattle.unit_code.specs.declared.unit.Unit.{Unit}
 use Rattle.unit_code.specs.declared.unit.Unit.TheVariants.{SpGroup, Skip}
 use Rattle.unit_code.specs.declared.kinds.Standing.{Standing}
 use Rattle.unit_code.specs.declared.kinds.Standing.TheVariants.{NoInstruction, Barred, Part}
-use Rattle.unit_code.specs.declared.kinds.Piece.{Piece}
 use Rattle.unit_code.specs.declared.kinds.Piece.TheVariants.{Whole, Aimed}
 use Rattle.unit_code.specs.declared.kinds.Aim.{Aim}
 use Rattle.unit_code.specs.declared.kinds.Aim.TheVariants.{Branching, Jumping, Calling}
@@ -88,9 +87,9 @@ skips_to _ place places behind us h skipped = tt
 number_there : (places : List ℕ) (o : Option ℕ) → is_some (number_reached places o) ≡ true → (n : ℕ) × (number_reached places o ≡ Some n) × (n < length places)
 number_there places None h = cc
 number_there places (Some word) h = elim (number_of places word) as (λ o. is_some o ≡ true → number_of places word ≡ o → (n : ℕ) × (number_of places word ≡ Some n) × (n < length places)) [
-      None ↦ λ some is. cc
-    | Some n ↦ λ some is. (n, is, (number_of-some places word n is).0)
-    ] h refl
+  | None ↦ λ some is. cc
+  | Some n ↦ λ some is. (n, is, (number_of-some places word n is).0)
+] h refl
 
 aimed_unit : (places : List ℕ) (aim : Aim) (offset : ℤ) (us : List Unit) (n : ℕ) → IsSoundAim aim → n < length places → IsUnitOf places (Part (Aimed aim offset)) us (to_unit aim n)
 aimed_unit places (Branching set bit) offset us n sound below = record { kind = sound; target = below; skip = tt; group = refl }

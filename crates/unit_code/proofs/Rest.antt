@@ -1,10 +1,10 @@
 -- Loops whose invariant is what was told so far, and what is told of what is left.
-use Rattle.std.proofs.Common.{◌≡◌, ◌∙◌, ℕ, zero, suc, ◌+◌, ◌-◌, ◌<◌, ◌≤◌, List, [], ◌∷◌, ◌++◌, length, get_or, drop, map, Option, Some, None, sym, refl, ap, append_assoc, append-nil, arith}
+use Rattle.std.proofs.Common.{◌≡◌, ◌∙◌, ℕ, zero, suc, ◌+◌, ◌-◌, ◌<◌, ◌≤◌, List, [], ◌∷◌, ◌++◌, length, get_or, drop, Option, Some, None, sym, ap, append_assoc, append-nil, arith}
 use Rattle.std.specs.List.{cons_option, filter_map}
 use Rattle.std.proofs.lemmas.List.{drop-drop, drop_all, drop_more}
 use Rattle.unit_code.specs.declared.kinds.Standing.{Standing}
 use Rattle.unit_code.specs.declared.items.Item.{Item}
-use Rattle.unit_code.specs.Items.{found, items_from, items_of, next_word}
+use Rattle.unit_code.specs.Items.{found, items_from, next_word}
 
 -- what a list begins with at a place
 pub reads : {X : Type 0} (xs : List X) (i : ℕ) (x : X) → i < length xs → x ≡ get_or xs i x → drop i xs ≡ x ∷ drop (i + 1) xs

@@ -1,12 +1,11 @@
 -- What is read is of its kind.
-use Rattle.std.proofs.Common.{◌≡◌, ◌∙◌, ℕ, zero, suc, ◌+◌, ◌^◌, ◌==◌, ◌||◌, cond, Bool, true, false, List, [], ◌∷◌, ◌++◌, Option, Some, None, pos, negsuc, ℤ, refl, ap, ltb}
-use Rattle.std.specs.Prelude.{⊤}
+use Rattle.std.proofs.Common.{◌≡◌, ℕ, zero, suc, ◌+◌, ◌^◌, ◌==◌, ◌||◌, cond, Bool, true, false, List, [], ◌∷◌, ◌++◌, Option, Some, None, pos, negsuc, ℤ, refl, ap, ltb}
 use Rattle.avr_isa.specs.declared.instruction.Instr.{Instr}
 use Rattle.avr_isa.specs.declared.instruction.Instr.TheVariants.{Cpse, Sbrc, Sbrs, Push, Pop, StX, StdY, StdZ, Sts, StXInc, StXDec, StYInc, StYDec, StZInc, StZDec, LdXInc, LdXDec, LdYInc, LdYDec, LdZInc, LdZDec, In, Out, Ijmp, Jmp, LpmR0, LpmZ, LpmZInc, ElpmR0, ElpmZ, ElpmZInc, Spm, Reti, Sleep, Wdr, Break, Sbi, Cbi, Sbic, Sbis, Brbs, Brbc, Rjmp, Rcall, Call, Icall, Ret}
 use Rattle.avr_isa.specs.Operands.{IsEncodable}
 use Rattle.mote_layout.specs.declared.page.Entry.{Entry}
 use Rattle.mote_layout.specs.declared.page.Entry.TheVariants.{Kernel, Slot}
-use Rattle.mote_layout.specs.Page.{entry_at, StandsAt}
+use Rattle.mote_layout.specs.Page.{entry_at}
 use Rattle.mote_layout.proofs.EntryPage.{entry_at-some}
 use Rattle.unit_code.specs.declared.items.Item.{Item}
 use Rattle.unit_code.specs.declared.unit.Unit.{Unit}

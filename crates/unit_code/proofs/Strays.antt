@@ -1,5 +1,5 @@
 -- The least mark at which no unit begins.
-use Rattle.std.proofs.Common.{◌≡◌, ◌∙◌, ℕ, zero, suc, ◌+◌, ◌<◌, ◌≤◌, min, cond, Bool, true, false, List, [], ◌∷◌, length, get_or, Option, Some, None, is_some, sym, refl, ap, subst, inl, inr, ◌⊎◌, arith}
+use Rattle.std.proofs.Common.{◌≡◌, ◌∙◌, ℕ, zero, suc, ◌<◌, ◌≤◌, min, cond, true, false, List, [], ◌∷◌, Option, Some, None, is_some, sym, refl, ap, subst, inl, inr, ◌⊎◌, arith}
 use Rattle.std.specs.List.{Contains}
 use Rattle.std.proofs.lemmas.Bool.{cases_lt}
 use Rattle.unit_code.specs.Refusals.{least_stray, lesser}
@@ -51,9 +51,9 @@ strays places m ms (Some w) none all = stray_of_two places m ms w (cases_lt m w)
 least : (places : List ℕ) (marks : List ℕ) → IsLeastStray places marks (least_stray places marks)
 least places [] = λ mark (k, within, is) stray. omega (arith, within)
 least places (m ∷ ms) = elim (is_some (number_of places m)) as (λ b. is_some (number_of places m) ≡ b → IsLeastStray places (m ∷ ms) (cond b (least_stray places ms) (lesser (least_stray places ms) m))) [
-      true ↦ λ is. begins places m ms (least_stray places ms) is (least places ms)
-    | false ↦ λ is. strays places m ms (least_stray places ms) (none_is (number_of places m) is) (least places ms)
-    ] refl
+  | true ↦ λ is. begins places m ms (least_stray places ms) is (least places ms)
+  | false ↦ λ is. strays places m ms (least_stray places ms) (none_is (number_of places m) is) (least places ms)
+] refl
 
 pub least_stray-some : (places marks : List ℕ) (w : ℕ) → least_stray places marks ≡ Some w → IsLeastStray places marks (Some w)
 least_stray-some places marks w is = let P : Option ℕ → Type 0 = IsLeastStray places marks in subst P is (least places marks)

@@ -1,7 +1,7 @@
 -- What each instruction stands for in the code of a module. The kinds of refused instructions are numbers:
 -- 1 absolute jumps and IJMP, 2 reads and writes of program memory, 3 RETI, SLEEP, WDR and BREAK, 4 ports,
 -- 5 writes of SP outside of a group, 6 a pointer that changes while it is loaded or stored, 7 absolute calls.
-use Rattle.std.specs.Prelude.{ℕ, ◌+◌, ◌^◌, ◌==◌, ◌||◌, nat_lt, Bool, true, false, Option, Some, None, ℤ, pos, if◌then◌else◌, zero}
+use Rattle.std.specs.Prelude.{ℕ, ◌+◌, ◌^◌, ◌==◌, ◌||◌, nat_lt, Bool, true, false, Option, Some, ℤ, pos, if◌then◌else◌, zero}
 use Rattle.avr_isa.specs.declared.instruction.Instr.{Instr}
 use Rattle.avr_isa.specs.declared.instruction.Instr.TheVariants.{Cpse, Sbrc, Sbrs, Push, Pop, StX, StdY, StdZ, Sts, StXInc, StXDec, StYInc, StYDec, StZInc, StZDec, LdXInc, LdXDec, LdYInc, LdYDec, LdZInc, LdZDec, In, Out, Ijmp, Jmp, LpmR0, LpmZ, LpmZInc, ElpmR0, ElpmZ, ElpmZInc, Spm, Reti, Sleep, Wdr, Break, Sbi, Cbi, Sbic, Sbis, Brbs, Brbc, Rjmp, Rcall, Call, Icall, Ret}
 use Rattle.mote_layout.specs.Page.{entry_at}
@@ -10,8 +10,7 @@ use Rattle.mote_layout.specs.declared.page.Entry.TheVariants.{Kernel, Slot}
 use Rattle.unit_code.specs.declared.unit.Unit.{Unit}
 use Rattle.unit_code.specs.declared.unit.Unit.TheVariants as unit
 use Rattle.unit_code.specs.declared.kinds.Standing.{Standing}
-use Rattle.unit_code.specs.declared.kinds.Standing.TheVariants.{NoInstruction, Barred, Part}
-use Rattle.unit_code.specs.declared.kinds.Piece.{Piece}
+use Rattle.unit_code.specs.declared.kinds.Standing.TheVariants.{Barred, Part}
 use Rattle.unit_code.specs.declared.kinds.Piece.TheVariants.{Whole, Aimed}
 use Rattle.unit_code.specs.declared.kinds.Aim.{Aim}
 use Rattle.unit_code.specs.declared.kinds.Aim.TheVariants.{Branching, Jumping, Calling}

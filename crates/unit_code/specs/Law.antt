@@ -1,5 +1,5 @@
 -- The conditions in words: what each says of the code, and which is told.
-use Rattle.std.specs.Prelude.{◌≡◌, ◌⊎◌, ℕ, ◌<◌, ◌≤◌, min, Bool, true, false, List, [], ◌∷◌, drop, Option, Some, unwrap_or}
+use Rattle.std.specs.Prelude.{◌≡◌, ◌⊎◌, ℕ, ◌<◌, ◌≤◌, min, true, false, List, [], ◌∷◌, drop, Some, unwrap_or}
 use Rattle.std.specs.List.{Contains}
 use Rattle.mote_layout.specs.Memory.{bank_words}
 use Rattle.unit_code.specs.declared.error.CodeError.{CodeError}

@@ -1,5 +1,5 @@
 -- Lists of units that may be loaded.
-use Rattle.std.specs.Prelude.{◌≡◌, ℕ, ◌<◌, ◌≤◌, Bool, true, false, not, List, [], ◌∷◌, length, ⊤}
+use Rattle.std.specs.Prelude.{◌≡◌, ℕ, ◌<◌, ◌≤◌, Bool, true, false, List, [], ◌∷◌, length, ⊤}
 use Rattle.std.specs.List.{AllByRecursion}
 use Rattle.avr_isa.specs.Operands.{IsEncodable, IsRegister, IsBit}
 use Rattle.mote_layout.specs.Memory.{bank_words}

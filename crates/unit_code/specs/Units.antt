@@ -46,7 +46,7 @@ refusal words marks =
 -- What is told of words that are not refused.
 unfoldable pub listed : List ℕ → List ℕ → Listing
 listed words marks = record {
-    units = units_of words;
-    places = places_of words;
-    marks = filter_map (number_of (places_of words)) marks;
-  }
+  units = units_of words;
+  places = places_of words;
+  marks = filter_map (number_of (places_of words)) marks;
+}

@@ -21,7 +21,9 @@ pub struct Item {
 
 // OUT of R29 to SP's high byte, of R0 to SREG and of R28 to SP's low byte.
 const OUT_SPH: u16 = 0xBFDE;
+
 const OUT_SREG: u16 = 0xBE0F;
+
 const OUT_SPL: u16 = 0xBFCD;
 
 /// What stands at each place where something begins, in order.

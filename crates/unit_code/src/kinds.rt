@@ -37,12 +37,16 @@ pub enum Aim {
 
 // The lower registers of the pointers.
 const X: u8 = 26;
+
 const Y: u8 = 28;
+
 const Z: u8 = 30;
 
 // The ports of SP's two bytes and of SREG.
 const SPL_PORT: u8 = 0x3D;
+
 const SPH_PORT: u8 = 0x3E;
+
 const SREG_PORT: u8 = 0x3F;
 
 /// What an instruction outside of a group stands for.

@@ -1,16 +1,15 @@
 //! Code worked out by hand from the instruction set manual and the rules of the units.
 
 use crate::{CodeError, Shape, Unit, UnitList, spelled_len, units};
+use Unit::{
+    Branch, Jump, KernelCall, LocalCall, Plain, Pop, Push, Reserve, Return, Skip, SlotCall,
+    SlotIndirect, SpGroup, Store,
+};
 use avr_isa::Instr;
 use mote_base::Words;
 use std::alloc::{AllocError, Global};
 use std::process::Abort;
 use std::test::Fail;
-
-use Unit::{
-    Branch, Jump, KernelCall, LocalCall, Plain, Pop, Push, Reserve, Return, Skip, SlotCall,
-    SlotIndirect, SpGroup, Store,
-};
 
 /// The words as bytes, low byte first.
 fn bytes_of(alloc: Global, words: &[u16]) -> Result<Vec<u8>, AllocError> {
@@ -43,7 +42,10 @@ fn check_units(
 ) -> Result<(), Fail> {
     for (words, expected, places) in rows {
         let list = read(rt, alloc, words, &[0])?;
-        assert!(rt; list.units.as_slice() == *expected, "the units of {words:?}");
+        assert!(rt;
+            list.units.as_slice() == *expected,
+            "the units of {words:?}"
+        );
         assert_eq!(rt; list.places.as_slice(), *places, "of {words:?}");
         assert_eq!(rt; list.marks.as_slice(), [0].as_slice());
     }
@@ -65,7 +67,11 @@ fn short_modules(rt: HostRuntime) -> Result<(), Fail> {
             &[0, 1, 2],
         ),
         (&[0x920F, 0xCFFE], &[Push(0), Jump(0)], &[0, 1]),
-        (&[0x9508, 0x910F, 0x9508], &[Return, Pop(16), Return], &[0, 1, 2]),
+        (
+            &[0x9508, 0x910F, 0x9508],
+            &[Return, Pop(16), Return],
+            &[0, 1, 2],
+        ),
         (&[0x940E, 0xF200, 0x9508], &[SlotCall(0), Return], &[0, 2]),
         (&[0x940E, 0xF105, 0x9508], &[KernelCall(5), Return], &[0, 2]),
         (
@@ -73,7 +79,11 @@ fn short_modules(rt: HostRuntime) -> Result<(), Fail> {
             &[
                 Plain(Instr::Ldi(16, 10)),
                 Plain(Instr::Dec(16)),
-                Branch { set: false, bit: 1, target: 1 },
+                Branch {
+                    set: false,
+                    bit: 1,
+                    target: 1,
+                },
                 Return,
             ],
             &[0, 1, 2, 3],
@@ -137,7 +147,9 @@ fn longer_modules(rt: HostRuntime) -> Result<(), Fail> {
                 Pop(28),
                 Return,
             ],
-            &[0, 1, 2, 3, 4, 5, 6, 7, 10, 11, 12, 13, 14, 15, 16, 19, 20, 21],
+            &[
+                0, 1, 2, 3, 4, 5, 6, 7, 10, 11, 12, 13, 14, 15, 16, 19, 20, 21,
+            ],
         ),
         (
             &[
@@ -147,7 +159,11 @@ fn longer_modules(rt: HostRuntime) -> Result<(), Fail> {
             &[
                 Plain(Instr::Lds(18, 0x0100)),
                 Plain(Instr::Cpi(18, 0)),
-                Branch { set: true, bit: 1, target: 4 },
+                Branch {
+                    set: true,
+                    bit: 1,
+                    target: 4,
+                },
                 Return,
                 Plain(Instr::Movw(14, 24)),
                 Plain(Instr::Ldi(17, 16)),
@@ -155,7 +171,11 @@ fn longer_modules(rt: HostRuntime) -> Result<(), Fail> {
                 Plain(Instr::Ldi(22, 9)),
                 KernelCall(3),
                 Plain(Instr::Dec(17)),
-                Branch { set: false, bit: 1, target: 6 },
+                Branch {
+                    set: false,
+                    bit: 1,
+                    target: 6,
+                },
                 Plain(Instr::Movw(18, 14)),
                 KernelCall(4),
                 Return,
@@ -177,10 +197,18 @@ fn marks_have_unit_numbers(rt: HostRuntime) -> Result<(), Fail> {
 #[test]
 fn refused_code(rt: HostRuntime) {
     let rows: [(&[u16], &[u16], CodeError); 33] = [
-        (&[0x9508, 0xFFFF, 0x0001, 0x9409], &[9], CodeError::Undefined(1)),
+        (
+            &[0x9508, 0xFFFF, 0x0001, 0x9409],
+            &[9],
+            CodeError::Undefined(1),
+        ),
         (&[0x9409, 0x9120], &[], CodeError::Undefined(1)),
         (&[0x9409, 0x9508], &[], CodeError::Refused(0, 1)),
-        (&[0x0000, 0x940C, 0x0000, 0x9409], &[], CodeError::Refused(1, 1)),
+        (
+            &[0x0000, 0x940C, 0x0000, 0x9409],
+            &[],
+            CodeError::Refused(1, 1),
+        ),
         (&[0x95C8, 0x9508], &[], CodeError::Refused(0, 2)),
         (&[0x9184, 0x9508], &[], CodeError::Refused(0, 2)),
         (&[0x9077, 0x9508], &[], CodeError::Refused(0, 2)),
@@ -207,7 +235,11 @@ fn refused_code(rt: HostRuntime) {
         (&[0xE481], &[7], CodeError::FallsOff),
         (&[], &[0], CodeError::Empty),
         (&[0xE481, 0x940E, 0xF108, 0x9508], &[2], CodeError::Entry(2)),
-        (&[0xE481, 0x940E, 0xF108, 0x9508], &[1, 9, 4, 0], CodeError::Entry(4)),
+        (
+            &[0xE481, 0x940E, 0xF108, 0x9508],
+            &[1, 9, 4, 0],
+            CodeError::Entry(4),
+        ),
         (&[0x9508, 0x940E], &[], CodeError::Undefined(1)),
         (&[0x9508, 0x940E, 0x0000], &[], CodeError::Refused(1, 7)),
     ];
@@ -249,7 +281,15 @@ fn lengths_by_the_templates(rt: HostRuntime) {
         (SpGroup { with_sreg: true }, 5, 5),
         (Reserve, 2, 2),
         (Skip(Instr::Sbrs(16, 0)), 3, 1),
-        (Branch { set: true, bit: 1, target: 4 }, 2, 1),
+        (
+            Branch {
+                set: true,
+                bit: 1,
+                target: 4,
+            },
+            2,
+            1,
+        ),
         (Jump(0), 1, 1),
         (LocalCall(0), 3, 3),
         (KernelCall(8), 2, 2),

@@ -1,4 +1,4 @@
-use Rattle.std.proofs.Common.{◌≡◌, ◌∙◌, ◌≤◌, length, Some, None, sym, ap, inr, arith}
+use Rattle.std.proofs.Common.{◌≡◌, ◌∙◌, length, Some, None, sym, ap, inr, arith}
 use Rattle.unit_code.specs.Items.{items_of}
 use Rattle.unit_code.specs.Refusals.{refusal_of_items, refusal_of_units, stray_mark}
 use Rattle.unit_code.specs.Units.{places_of, units_of}

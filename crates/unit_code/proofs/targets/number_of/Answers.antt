@@ -1,4 +1,4 @@
-use Rattle.std.proofs.Common.{◌≡◌, ◌≢◌, ◌^◌, ◌<◌, ◌≤◌, ℕ, length, get_or, Some, sym, ap, ◌∙◌, arith, rules}
+use Rattle.std.proofs.Common.{◌≡◌, ◌^◌, ◌≤◌, sym, ap, ◌∙◌, arith, rules}
 use Rattle.unit_code.specs.Targets.{number_of}
 use Rattle.unit_code.proofs.Numbers.{number_of-found, number_of-missed, number_of-none}
 use Rattle.unit_code.proofs.targets.number_of.Goals as goal
