@@ -1,4 +1,4 @@
--- The conditions under which words are refused, each of the whole list.
+-- The conditions under which words are refused, each of the whole list: what is wrong, and the least word where it is.
 use Rattle.std.specs.Prelude.{ℕ, min, nat_lt, Bool, true, false, not, is_some, List, [], ◌∷◌, Option, Some, None, option_map, if◌then◌else◌}
 use Rattle.mote_layout.specs.Memory.{bank_words}
 use Rattle.unit_code.specs.declared.error.CodeError.{CodeError}
@@ -31,7 +31,7 @@ may_skip [] = false
 may_skip (next ∷ []) = false
 may_skip (next ∷ other ∷ behind) = not (is_group next.standing)
 
--- whether a unit leads where no unit is
+-- whether the target of a unit is the first word of one; a skip leads over what it may pass
 abbrev pub leads : Piece → ℕ → List ℕ → List Item → Bool
 leads (Aimed aim offset) place places behind = is_some (number_reached places (reached place offset))
 leads (Whole (Skip i)) place places behind = may_skip behind
