@@ -1,0 +1,13 @@
+pub mod Astray
+pub mod Chain
+pub mod FirstItem
+pub mod FirstLaw
+pub mod FirstRefused
+pub mod Last
+pub mod Marks
+pub mod Numbers
+pub mod Places
+pub mod ProperUnits
+pub mod Rest
+pub mod SoundKinds
+pub mod Strays

@@ -1,0 +1,12 @@
+pub mod Ends
+pub mod Errors
+pub mod Items
+pub mod Kinds
+pub mod Law
+pub mod Lengths
+pub mod Listing
+pub mod Proper
+pub mod Refusals
+pub mod Sound
+pub mod Targets
+pub mod Units
