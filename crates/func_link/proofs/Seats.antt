@@ -1,0 +1,1 @@
+-- Seats found, added and taken out.

@@ -1,0 +1,77 @@
+//! The links of all modules.
+
+ghost use Rattle.std.specs.Prelude.{◌≡◌, ◌<◌, [], ◌∷◌, ◌++◌, None, IfOk};
+ghost use Rattle.mote_layout.specs.Memory.{domain_count};
+ghost use Rattle.module_image.specs.Contents.{FaceRules};
+ghost use Rattle.module_image.specs.Links.{bound_slot, seat_in, seat_of};
+ghost use Rattle.func_link.specs.Links.{AreSeats, without};
+
+use crate::seat::Seat;
+use crate::slots::{Slots, UNBOUND, slots_of};
+use module_image::Face;
+use mote_base::NoMemory;
+use mote_layout::DOMAINS;
+use std::alloc::Global;
+use std::marker::Model;
+
+/// The modules that are in, and what each slot of them leads to.
+#[derive(Drop)]
+pub struct Links {
+    seats: Vec<Seat>,
+    slots: Slots,
+}
+
+impl Model for Links {
+    ghost use Rattle.std.specs.Prelude.{List, ◌≤◌};
+    ghost use Rattle.std.specs.Vec.{vec_capacity};
+    ghost use Rattle.mote_layout.specs.Memory.{domain_count};
+    ghost use Rattle.module_image.specs.Links.{Seat};
+    ghost use Rattle.func_link.specs.Links.{AreSeats, AreSlots};
+
+    ghost Value = { List Seat };
+
+    ghost view = { λ l. l.seats.items };
+
+    ghost invariant = { λ l. AreSeats l.seats.items × AreSlots l.seats.items l.slots × (domain_count ≤ vec_capacity l.seats) };
+}
+
+impl Links {
+    /// No module is in. All memory that the links ever need is taken here.
+    pub fn new(alloc: Global) -> Result<Links, NoMemory>
+        ensures { IfOk result (λ links. links ≡ []) }
+    {
+        let seats = Vec::with_capacity(alloc, usize::from(DOMAINS))?;
+        Ok(Links {
+            seats,
+            slots: UNBOUND,
+        })
+    }
+
+    /// Puts a module into a domain. Every slot that it serves is bound to it, also of modules that came before it.
+    pub fn module_in(&mut self, d: u8, face: &Face)
+        requires domain { d < domain_count }
+        requires free { seat_in d self.old ≡ None }
+        requires face { FaceRules face.now }
+        requires id { seat_of face.now.id self.old ≡ None }
+        ensures seats { self.new ≡ self.old ++ record { domain = d; face = face.now } ∷ [] }
+    {
+        self.seats.push(Seat::new(d, face)).unwrap();
+        self.slots = slots_of(&self.seats);
+    }
+
+    /// Takes the module in a domain out, if there is one. No slot is bound to it any more.
+    pub fn module_out(&mut self, d: u8)
+        ensures { self.new ≡ without d self.old }
+    {
+        self.seats.retain(|seat| seat.domain() != d);
+        self.slots = slots_of(&self.seats);
+    }
+
+    /// What slot `i` of the module in domain `d` leads to: the provider's domain, and the place in its provided list.
+    pub fn bound(&self, d: u8, i: u8) -> Option<(u8, u8)>
+        ensures slot { result ≡ bound_slot self.now d i }
+        ensures seats { AreSeats self.now }
+    {
+        *self.slots.get(usize::from(d))?.get(usize::from(i))?
+    }
+}
