@@ -1,10 +1,10 @@
 -- The modules that are in, and what their slots lead to.
-use Rattle.std.specs.Prelude.{◌≡◌, ℕ, ◌<◌, ◌==◌, not, List, [], ◌∷◌, filter, get_or, slice_get, Contains, Option, Some, None}
+use Rattle.std.specs.Prelude.{◌≡◌, ℕ, ◌<◌, ◌==◌, not, List, [], ◌∷◌, filter, slice_get, Contains, Some, None}
 use Rattle.mote_layout.specs.Memory.{domain_count}
 use Rattle.module_image.specs.declared.face.Provided.{Provided}
 use Rattle.module_image.specs.declared.face.Subscribed.{Subscribed}
 use Rattle.module_image.specs.Contents.{FaceRules}
-use Rattle.module_image.specs.Links.{Seat, seat_in, seat_of, bound_slot}
+use Rattle.module_image.specs.Links.{Seat, seat_in, seat_of}
 
 -- Each module is in a domain that there is, its face keeps the field rules, and no other has its domain or its id.
 abbrev pub AreSeats : List Seat → Type 0
@@ -32,11 +32,3 @@ pub record Leads (seats : List Seat) (d i p n : ℕ) : Type 0 where
   pub same_module : provider.face.id ≡ subscribed.module
   pub same_function : provided.func ≡ subscribed.func
   pub same_prototype : provided.proto ≡ subscribed.proto
-
--- the entry of a slot of a domain in a table with a row for each domain
-abbrev pub slot_at : List (List (Option (ℕ × ℕ))) → ℕ → ℕ → Option (ℕ × ℕ)
-slot_at rows d i = get_or (get_or rows d []) i None
-
--- Each entry is what its slot is bound to.
-abbrev pub AreSlots : List Seat → List (List (Option (ℕ × ℕ))) → Type 0
-AreSlots seats rows = (d i : ℕ) → slot_at rows d i ≡ bound_slot seats d i

@@ -7,7 +7,7 @@ ghost use Rattle.module_image.specs.Links.{bound_slot, seat_in, seat_of};
 ghost use Rattle.func_link.specs.Links.{AreSeats, without};
 
 use crate::seat::Seat;
-use crate::slots::{Slots, UNBOUND, slots_of};
+use crate::slots::Slots;
 use module_image::Face;
 use mote_base::NoMemory;
 use mote_layout::DOMAINS;
@@ -26,7 +26,8 @@ impl Model for Links {
     ghost use Rattle.std.specs.Vec.{vec_capacity};
     ghost use Rattle.mote_layout.specs.Memory.{domain_count};
     ghost use Rattle.module_image.specs.Links.{Seat};
-    ghost use Rattle.func_link.specs.Links.{AreSeats, AreSlots};
+    ghost use Rattle.func_link.specs.Links.{AreSeats};
+    ghost use Rattle.func_link.specs.Slots.{AreSlots};
 
     ghost Value = { List Seat };
 
@@ -41,10 +42,8 @@ impl Links {
         ensures { IfOk result (λ links. links ≡ []) }
     {
         let seats = Vec::with_capacity(alloc, usize::from(DOMAINS))?;
-        Ok(Links {
-            seats,
-            slots: UNBOUND,
-        })
+        let slots = Slots::of(&seats);
+        Ok(Links { seats, slots })
     }
 
     /// Puts a module into a domain. Every slot that it serves is bound to it, also of modules that came before it.
@@ -56,7 +55,7 @@ impl Links {
         ensures seats { self.new ≡ self.old ++ record { domain = d; face = face.now } ∷ [] }
     {
         self.seats.push(Seat::new(d, face)).unwrap();
-        self.slots = slots_of(&self.seats);
+        self.slots = Slots::of(&self.seats);
     }
 
     /// Takes the module in a domain out, if there is one. No slot is bound to it any more.
@@ -64,7 +63,7 @@ impl Links {
         ensures { self.new ≡ without d self.old }
     {
         self.seats.retain(|seat| seat.domain() != d);
-        self.slots = slots_of(&self.seats);
+        self.slots = Slots::of(&self.seats);
     }
 
     /// What slot `i` of the module in domain `d` leads to: the provider's domain, and the place in its provided list.
@@ -72,6 +71,6 @@ impl Links {
         ensures slot { result ≡ bound_slot self.now d i }
         ensures seats { AreSeats self.now }
     {
-        *self.slots.get(usize::from(d))?.get(usize::from(i))?
+        self.slots.at(d, i)
     }
 }

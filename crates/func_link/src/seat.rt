@@ -1,6 +1,6 @@
 //! A module that is in: its domain and what it shows to others.
 
-ghost use Rattle.std.specs.Prelude.{◌≡◌, slice_get};
+ghost use Rattle.std.specs.Prelude.{◌≡◌, ◌<◌, length, slice_get, IfSome};
 ghost use Rattle.module_image.specs.Links.{place_of, serves};
 
 use arrayvec::ArrayVec;
@@ -62,10 +62,16 @@ impl Seat {
     pub fn place_of(&self, subscribed: &Subscribed) -> Option<u8>
         ensures { result ≡ place_of subscribed.now self.now.face.provided.items }
     {
-        let provided = self.face.provided.as_slice();
-        let place = provided.iter().position(|p| serves(subscribed, p))?;
+        let place = place_of(subscribed, self.face.provided.as_slice())?;
         Some(place as u8)
     }
+}
+
+fn place_of(subscribed: &Subscribed, provided: &[Provided]) -> Option<usize>
+    ensures place { result ≡ place_of subscribed.now provided.now }
+    ensures within { IfSome result (λ place. place < length provided.now) }
+{
+    provided.iter().position(|p| serves(subscribed, p))
 }
 
 /// Whether a provided function has the function id and the prototype of a subscription.

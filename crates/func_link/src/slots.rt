@@ -3,7 +3,7 @@
 ghost use Rattle.std.specs.Prelude.{◌≡◌, ℕ, None, get_or};
 ghost use Rattle.std.specs.Option.{option_copied};
 ghost use Rattle.module_image.specs.Links.{bound_slot, seat_in, seat_of};
-ghost use Rattle.func_link.specs.Links.{AreSeats, AreSlots};
+ghost use Rattle.func_link.specs.Links.{AreSeats};
 
 use crate::seat::Seat;
 use mote_layout::{DOMAINS, SUBSCRIBED};
@@ -11,25 +11,36 @@ use mote_layout::{DOMAINS, SUBSCRIBED};
 /// How many domains have a row.
 const ROWS: usize = DOMAINS as usize;
 
-/// What each slot of one module leads to.
-pub type Row = [Option<(u8, u8)>; SUBSCRIBED];
+/// What each slot of one module leads to, where None is an unbound slot.
+type Row = [Option<(u8, u8)>; SUBSCRIBED];
 
-/// What each slot of each domain leads to, where None is an unbound slot.
-pub type Slots = [Row; ROWS];
+/// What each slot of each domain leads to.
+#[derive(Drop)]
+pub struct Slots {
+    rows: [Row; ROWS],
+}
 
-/// No slot is bound.
-pub const UNBOUND: Slots = [[None; SUBSCRIBED]; ROWS];
+impl Slots {
+    ghost use Rattle.func_link.specs.Slots.{AreSlots, slot_at};
 
-/// What all slots lead to.
-pub fn slots_of(seats: &[Seat]) -> Slots
-    requires { AreSeats seats.now }
-    ensures { AreSlots seats.now result }
-{
-    let mut slots = UNBOUND;
-    for domain in 0..DOMAINS {
-        slots[usize::from(domain)] = row_of(seats, domain);
+    /// The slots of these modules.
+    pub fn of(seats: &[Seat]) -> Slots
+        requires { AreSeats seats.now }
+        ensures { AreSlots seats.now result }
+    {
+        let mut rows = [[None; SUBSCRIBED]; ROWS];
+        for domain in 0..DOMAINS {
+            rows[usize::from(domain)] = row_of(seats, domain);
+        }
+        Slots { rows }
     }
-    slots
+
+    /// What a slot of a domain leads to.
+    pub fn at(&self, domain: u8, slot: u8) -> Option<(u8, u8)>
+        ensures { result ≡ slot_at self.now domain slot }
+    {
+        *self.rows.get(usize::from(domain))?.get(usize::from(slot))?
+    }
 }
 
 /// What the slots of the module in a domain lead to.
