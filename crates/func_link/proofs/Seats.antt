@@ -74,7 +74,7 @@ seat_of-push id (s ∷ seats) x none other =
     let parts = none_parts (eqb s.face.id id) s (seat_of id seats) none in
     rw parts.0 (seat_of-push id seats x parts.1 other)
 
-other_way : (a b : ℕ) → eqb a b ≡ false → eqb b a ≡ false
+pub other_way : (a b : ℕ) → eqb a b ≡ false → eqb b a ≡ false
 other_way a b differ = grind (arith, nat_tests)
 
 pub AreSeats-push : (seats : List Seat) (x : Seat) → AreSeats seats → x.domain < domain_count → FaceRules x.face → seat_in x.domain seats ≡ None → seat_of x.face.id seats ≡ None → AreSeats (seats ++ x ∷ [])
