@@ -1,7 +1,6 @@
 //! The links of all modules.
 
 ghost use Rattle.std.specs.Prelude.{◌≡◌, ◌<◌, [], ◌∷◌, ◌++◌, None, IfOk};
-ghost use Rattle.mote_layout.specs.Memory.{domain_count};
 ghost use Rattle.module_image.specs.Contents.{FaceRules};
 ghost use Rattle.module_image.specs.Links.{bound_slot, seat_in, seat_of};
 ghost use Rattle.func_link.specs.Links.{AreSeats, without};
@@ -48,11 +47,12 @@ impl Links {
 
     /// Puts a module into a domain. Every slot that it serves is bound to it, also of modules that came before it.
     pub fn module_in(&mut self, d: u8, face: &Face)
-        requires domain { d < domain_count }
+        requires domain { d < DOMAINS }
         requires free { seat_in d self.old ≡ None }
         requires face { FaceRules face.now }
         requires id { seat_of face.now.id self.old ≡ None }
         ensures seats { self.new ≡ self.old ++ record { domain = d; face = face.now } ∷ [] }
+        ensures rules { AreSeats self.old × AreSeats self.new }
     {
         self.seats.push(Seat::new(d, face)).unwrap();
         self.slots = Slots::of(&self.seats);
@@ -60,7 +60,8 @@ impl Links {
 
     /// Takes the module in a domain out, if there is one. No slot is bound to it any more.
     pub fn module_out(&mut self, d: u8)
-        ensures { self.new ≡ without d self.old }
+        ensures seats { self.new ≡ without d self.old }
+        ensures rules { AreSeats self.old × AreSeats self.new }
     {
         self.seats.retain(|seat| seat.domain() != d);
         self.slots = Slots::of(&self.seats);
@@ -69,7 +70,7 @@ impl Links {
     /// What slot `i` of the module in domain `d` leads to: the provider's domain, and the place in its provided list.
     pub fn bound(&self, d: u8, i: u8) -> Option<(u8, u8)>
         ensures slot { result ≡ bound_slot self.now d i }
-        ensures seats { AreSeats self.now }
+        ensures rules { AreSeats self.now }
     {
         self.slots.at(d, i)
     }

@@ -39,3 +39,8 @@ invariant_of-self c =
     let is = kept (goal.at.invariant_of-self c).After-deref in
     let slots : AreSlots c.push.new.self.items c.of-self-inside.result = rw c.deref.ensures.value at c.of-self-inside.ensures in
     (rw is (all (goal.at.invariant_of-self c).After-self), slots, omega (arith, c.push.ensures.capacity, c.self.invariant.2))
+
+pub returns-clause-rules : goal.returns-clause-rules
+returns-clause-rules c =
+    let is = kept (goal.at.returns-clause-rules c).After-deref in
+    (rw (← c.self.view_is) c.self.invariant.0, rw is (all (goal.at.returns-clause-rules c).After-self))

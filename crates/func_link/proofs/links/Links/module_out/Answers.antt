@@ -25,5 +25,8 @@ invariant_of-self c =
     let slots : AreSlots c.retain.new.self.items c.of-self-inside.result = rw c.deref.ensures.value at c.of-self-inside.ensures in
     (seats (goal.at.invariant_of-self c).After-retain, slots, omega (arith, c.retain.ensures.capacity, c.self.invariant.2))
 
-pub returns : goal.returns
-returns c = rw (← c.self.view_is) (stay (goal.at.returns c).After-retain)
+pub returns-clause-seats : goal.returns-clause-seats
+returns-clause-seats c = rw (← c.self.view_is) (stay (goal.at.returns-clause-seats c).After-retain)
+
+pub returns-clause-rules : goal.returns-clause-rules
+returns-clause-rules c = (rw (← c.self.view_is) c.self.invariant.0, seats (goal.at.returns-clause-rules c).After-retain)
