@@ -64,7 +64,8 @@ impl Links {
         ensures rules { AreSeats self.old × AreSeats self.new }
     {
         self.seats.retain(|seat| seat.domain() != d);
-        self.slots = Slots::of(&self.seats);
+        let staying = &self.seats;
+        self.slots = Slots::of(staying);
     }
 
     /// What slot `i` of the module in domain `d` leads to: the provider's domain, and the place in its provided list.

@@ -81,7 +81,7 @@ fn serves(subscribed: &Subscribed, provided: &Provided) -> bool
     provided.func == subscribed.func && provided.proto == subscribed.proto
 }
 
-fn copied<T: Copy + Default + Drop>(items: &ArrayVec<T, 16>) -> ArrayVec<T, 16>
+fn copied<T: Copy + Default + Drop, const N: usize>(items: &ArrayVec<T, N>) -> ArrayVec<T, N>
     ensures { result.items ≡ items.now.items }
 {
     let mut copy = ArrayVec::new();
