@@ -1,5 +1,5 @@
 -- What a slot leads to: found by looking for it, and where it leads it is found.
-use Rattle.std.proofs.Common.{◌≡◌, ◌⊎◌, ℕ, ◌+◌, ◌<◌, ◌≤◌, zero, suc, eqb, nat_eq, Bool, true, false, cond, List, [], ◌∷◌, length, slice_get, get_or, Option, Some, None, inl, inr, refl, sym, ap, ◌∙◌, arith}
+use Rattle.std.proofs.Common.{◌≡◌, ◌⊎◌, ℕ, ◌+◌, ◌≤◌, zero, suc, eqb, nat_eq, Bool, true, false, cond, List, [], ◌∷◌, length, slice_get, Option, Some, None, inl, inr, refl, sym, ap, ◌∙◌, arith}
 use Rattle.std.specs.List.{Contains}
 use Rattle.std.specs.Option.{option_and_then, option_map}
 use Rattle.std.specs.Cmp.Lexicographic.{pointwise, bytes_decides}
@@ -167,25 +167,25 @@ found-leads seats d i p n found =
     option_and_then_some (λ (user : Seat). option_and_then (provider_of seats) (slice_get user.face.subscribed.items i)) (seat_in d seats) (p, n) found (λ user is_user of_user.
     option_and_then_some (provider_of seats) (slice_get user.face.subscribed.items i) (p, n) of_user (λ s is_slot of_slot.
     option_and_then_some (λ (provider : Seat). option_map {U = ℕ × ℕ} (λ k. (provider.domain, k)) (place_of s provider.face.provided.items)) (seat_of s.module seats) (p, n) of_slot (λ provider is_provider of_provider.
-      let placed = pair_parts provider.domain (place_of s provider.face.provided.items) p n of_provider in
-      let user_at = seat_in-at d seats user is_user in
-      let provider_at = seat_of-at s.module seats provider is_provider in
-      let place_at = place_of-at s provider.face.provided.items n placed.1 in
-      record {
-        user = user;
-        subscribed = s;
-        provider = provider;
-        provided = place_at.0;
-        user_is_in = contains seats user_at.0 user user_at.1;
-        user_domain = user_at.2;
-        slot = is_slot;
-        provider_is_in = contains seats provider_at.0 provider provider_at.1;
-        provider_domain = placed.0;
-        place = place_at.1;
-        same_module = provider_at.2;
-        same_function = place_at.2;
-        same_prototype = place_at.3
-      })))
+    let placed = pair_parts provider.domain (place_of s provider.face.provided.items) p n of_provider in
+    let user_at = seat_in-at d seats user is_user in
+    let provider_at = seat_of-at s.module seats provider is_provider in
+    let place_at = place_of-at s provider.face.provided.items n placed.1 in
+    record {
+      user = user;
+      subscribed = s;
+      provider = provider;
+      provided = place_at.0;
+      user_is_in = contains seats user_at.0 user user_at.1;
+      user_domain = user_at.2;
+      slot = is_slot;
+      provider_is_in = contains seats provider_at.0 provider provider_at.1;
+      provider_domain = placed.0;
+      place = place_at.1;
+      same_module = provider_at.2;
+      same_function = place_at.2;
+      same_prototype = place_at.3;
+    })))
 
 -- what the slot leads to is found
 pub leads-found : (seats : List Seat) (d i p n : ℕ) → AreSeats seats → Leads seats d i p n → bound_slot seats d i ≡ Some (p, n)

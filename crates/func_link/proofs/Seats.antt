@@ -1,12 +1,11 @@
 -- Seats found, added and taken out.
-use Rattle.std.proofs.Common.{◌≡◌, ℕ, ◌+◌, ◌<◌, ◌≤◌, eqb, Bool, true, false, cond, not, List, [], ◌∷◌, ◌++◌, length, filter, find, map, slice_get, get_or, Option, Some, None, inl, inr, refl, sym, ap, ◌∙◌, arith, length-append}
+use Rattle.std.proofs.Common.{◌≡◌, ℕ, ◌+◌, ◌<◌, ◌≤◌, eqb, Bool, true, false, cond, List, [], ◌∷◌, ◌++◌, length, filter, find, map, slice_get, Option, Some, None, inl, inr, refl, ap, ◌∙◌, arith, length-append}
 use Rattle.std.specs.Option.{option_and_then, option_map}
 use Rattle.std.specs.List.{IsDistinct, AllByRecursion, list_any, position, position_from}
 use Rattle.std.proofs.lemmas.Iterator.Adapters.{position_from-zero}
 use Rattle.std.proofs.lemmas.Bool.{cases_Bool, eqb-true, false≢true}
 use Rattle.std.proofs.lemmas.Bool.Decides.{nat_tests}
 use Rattle.std.proofs.lemmas.Option.{slice_get_past}
-use Rattle.std.proofs.lemmas.Map.Keys.{IsDistinct-cons}
 use Rattle.std.proofs.lemmas.Map.Steps.{length-le_from_distinct_below}
 use Rattle.mote_layout.specs.Memory.{domain_count}
 use Rattle.mote_layout.specs.Limits.{subscribed_limit}
@@ -14,7 +13,7 @@ use Rattle.module_image.specs.declared.face.Provided.{Provided}
 use Rattle.module_image.specs.declared.face.Subscribed.{Subscribed}
 use Rattle.module_image.specs.Contents.{FaceRules}
 use Rattle.module_image.specs.Links.{Seat, serves, place_of, seat_in, seat_of, provider_of, bound_slot}
-use Rattle.func_link.specs.Links.{AreSeats, without}
+use Rattle.func_link.specs.Links.{AreSeats}
 
 -- The first of the seats that pass is the one that is looked for.
 pub find-seat_in : (d : ℕ) (seats : List Seat) → find (λ (s : Seat). eqb s.domain d) seats ≡ seat_in d seats
@@ -58,8 +57,8 @@ unbound_by seats i (Some s) none = rw (none s refl) refl
 pub bound_slot-past : (seats : List Seat) (d i : ℕ) → AreSeats seats → subscribed_limit ≤ i → bound_slot seats d i ≡ None
 bound_slot-past seats d i fits past =
     unbound_by seats i (seat_in d seats) (λ s found.
-      let rules = seat_in-fits d seats s fits found in
-      slice_get_past s.face.subscribed.items i (omega (arith, rules.subscribed_count, past)))
+    let rules = seat_in-fits d seats s fits found in
+    slice_get_past s.face.subscribed.items i (omega (arith, rules.subscribed_count, past)))
 
 -- one more seat at the end
 seat_in-push : (d : ℕ) (seats : List Seat) (x : Seat) → seat_in d seats ≡ None → eqb x.domain d ≡ false → seat_in d (seats ++ x ∷ []) ≡ None
@@ -81,12 +80,12 @@ pub AreSeats-push : (seats : List Seat) (x : Seat) → AreSeats seats → x.doma
 AreSeats-push [] x fits within rules free new = (within, rules, refl, refl, tt)
 AreSeats-push (s ∷ seats) x fits within rules free new =
     let frees = none_parts (eqb s.domain x.domain) s (seat_in x.domain seats) free in
-    let news = none_parts (eqb s.face.id x.face.id) s (seat_of x.face.id seats) new in
-    ( fits.0
-    , fits.1
-    , seat_in-push s.domain seats x fits.2 (other_way s.domain x.domain frees.0)
-    , seat_of-push s.face.id seats x fits.3 (other_way s.face.id x.face.id news.0)
-    , AreSeats-push seats x fits.4 within rules frees.1 news.1
+    let news = none_parts (eqb s.face.id x.face.id) s (seat_of x.face.id seats) new in (
+      fits.0,
+      fits.1,
+      seat_in-push s.domain seats x fits.2 (other_way s.domain x.domain frees.0),
+      seat_of-push s.face.id seats x fits.3 (other_way s.face.id x.face.id news.0),
+      AreSeats-push seats x fits.4 within rules frees.1 news.1,
     )
 
 -- some of the seats
@@ -113,12 +112,12 @@ AreSeats-filter test [] fits = tt
 AreSeats-filter test (s ∷ seats) fits =
     elim (cases_Bool (test s)) [
       | inl stays ↦
-          rw stays
-          ( fits.0
-          , fits.1
-          , seat_in-filter test s.domain seats fits.2
-          , seat_of-filter test s.face.id seats fits.3
-          , AreSeats-filter test seats fits.4
+          rw stays (
+            fits.0,
+            fits.1,
+            seat_in-filter test s.domain seats fits.2,
+            seat_of-filter test s.face.id seats fits.3,
+            AreSeats-filter test seats fits.4,
           )
       | inr goes ↦ rw goes (AreSeats-filter test seats fits.4)
     ]

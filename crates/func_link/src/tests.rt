@@ -49,12 +49,18 @@ fn links_follow_the_modules(rt: HostRuntime) -> Result<(), Fail> {
     links.module_in(0, &user);
     assert_eq!(rt; slots(&links, 0), alone);
     links.module_in(4, &provider);
-    assert_eq!(rt; slots(&links, 0), [itself, Some((4, 1)), None, None, None, None]);
+    assert_eq!(rt;
+        slots(&links, 0),
+        [itself, Some((4, 1)), None, None, None, None]
+    );
     assert_eq!(rt; slots(&links, 4), [None; 6]);
     links.module_out(4);
     assert_eq!(rt; slots(&links, 0), alone);
     links.module_in(6, &provider);
-    assert_eq!(rt; slots(&links, 0), [itself, Some((6, 1)), None, None, None, None]);
+    assert_eq!(rt;
+        slots(&links, 0),
+        [itself, Some((6, 1)), None, None, None, None]
+    );
     links.module_out(0);
     assert_eq!(rt; slots(&links, 0), [None; 6]);
     Ok(())

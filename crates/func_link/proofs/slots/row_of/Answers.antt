@@ -1,4 +1,4 @@
-use Rattle.std.proofs.Common.{◌≡◌, ℕ, ◌<◌, ◌≤◌, get_or, length, None, inl, inr, ap, sym, ◌∙◌, arith, rules}
+use Rattle.std.proofs.Common.{ℕ, ◌<◌, length, None, inl, inr, sym, ◌∙◌, arith}
 use Rattle.std.proofs.lemmas.Bool.{cases_lt}
 use Rattle.std.proofs.lemmas.List.{get_or_past, length-set}
 use Rattle.std.proofs.lemmas.List.Edits.{fill_by_more}
@@ -11,9 +11,9 @@ pub loop-slot-preserved : goal.loop-slot-preserved
 loop-slot-preserved c =
     let size = c.loop-slot.invariant.0 in
     let within : c.loop-slot.slot < length c.loop-slot.row = omega arith in
-    let f = λ (j : ℕ). bound_slot c.args.seats.now c.args.domain j in
-    ( length-set c.loop-slot.row c.loop-slot.slot c.bound_slot.result ∙ size
-    , λ k below. rw c.bound_slot.ensures (fill_by_more f c.loop-slot.row c.loop-slot.slot None within c.loop-slot.invariant.1 k below)
+    let f = λ (j : ℕ). bound_slot c.args.seats.now c.args.domain j in (
+      length-set c.loop-slot.row c.loop-slot.slot c.bound_slot.result ∙ size,
+      λ k below. rw c.bound_slot.ensures (fill_by_more f c.loop-slot.row c.loop-slot.slot None within c.loop-slot.invariant.1 k below),
     )
 
 pub returns : goal.returns

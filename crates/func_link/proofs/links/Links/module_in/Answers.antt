@@ -1,8 +1,7 @@
 -- There is room for one more module, and with it the modules are seats again.
-use Rattle.std.proofs.Common.{◌≡◌, ℕ, ◌+◌, ◌<◌, ◌≤◌, length, [], ◌∷◌, ◌++◌, ap, sym, ◌∙◌, arith, rules}
-use Rattle.std.specs.Vec.{vec_len, vec_capacity}
-use Rattle.mote_layout.specs.Memory.{domain_count}
-use Rattle.module_image.specs.Links.{Seat, bound_slot}
+use Rattle.std.proofs.Common.{◌≡◌, length, [], ◌∷◌, ◌++◌, ap, sym, ◌∙◌, arith, rules}
+use Rattle.std.specs.Vec.{vec_len}
+use Rattle.module_image.specs.Links.{Seat}
 use Rattle.func_link.specs.Links.{AreSeats}
 use Rattle.func_link.specs.Slots.{AreSlots}
 use Rattle.func_link.proofs.Seats.{AreSeats-push, length-room}

@@ -1,8 +1,6 @@
 -- The modules that stay are seats.
-use Rattle.std.proofs.Common.{◌≡◌, ◌≤◌, ◌==◌, not, ◌∙◌, arith, rules}
-use Rattle.std.specs.Vec.{vec_capacity}
+use Rattle.std.proofs.Common.{◌≡◌, ◌==◌, not, arith, rules}
 use Rattle.std.proofs.lemmas.Fn.{filter_same}
-use Rattle.mote_layout.specs.Memory.{domain_count}
 use Rattle.module_image.specs.Links.{Seat}
 use Rattle.func_link.specs.Links.{AreSeats, without}
 use Rattle.func_link.specs.Slots.{AreSlots}

@@ -1,4 +1,4 @@
-use Rattle.std.proofs.Common.{◌≡◌, ℕ, ◌<◌, ◌≤◌, get_or, [], length, None, inl, inr, ap, sym, ◌∙◌, arith, rules}
+use Rattle.std.proofs.Common.{◌≡◌, ◌<◌, get_or, [], length, None, inl, inr, ap, sym, ◌∙◌, arith, rules}
 use Rattle.std.proofs.lemmas.Bool.{cases_eq, cases_lt}
 use Rattle.std.proofs.lemmas.List.{get_or_past, get_or-set_other, length-set}
 use Rattle.std.proofs.lemmas.Grind.{get_or-set_at}
@@ -11,18 +11,18 @@ pub loop-domain-preserved : goal.loop-domain-preserved
 loop-domain-preserved c =
     let size = c.loop-domain.invariant.0 in
     let at : c.from.result ≡ c.loop-domain.domain = search rules in
-    let within : c.from.result < length c.loop-domain.rows = omega arith in
-    ( length-set c.loop-domain.rows c.from.result c.row_of.result ∙ size
-    , λ k i below.
-        elim (cases_eq k c.loop-domain.domain) [
-          | inl here ↦
-              ap (λ row. get_or row i None) (get_or-set_at c.loop-domain.rows c.from.result k c.row_of.result [] (omega arith) within)
-                  ∙ c.row_of.ensures i
-                  ∙ ap (λ d. bound_slot c.args.seats.now d i) (sym here)
-          | inr other ↦
-              ap (λ row. get_or row i None) (get_or-set_other c.loop-domain.rows c.from.result k c.row_of.result [] (λ e. other (e ∙ at)))
-                  ∙ c.loop-domain.invariant.1 k i (omega arith)
-        ]
+    let within : c.from.result < length c.loop-domain.rows = omega arith in (
+      length-set c.loop-domain.rows c.from.result c.row_of.result ∙ size,
+      λ k i below.
+          elim (cases_eq k c.loop-domain.domain) [
+            | inl here ↦
+                ap (λ row. get_or row i None) (get_or-set_at c.loop-domain.rows c.from.result k c.row_of.result [] (omega arith) within)
+                ∙ c.row_of.ensures i
+                ∙ ap (λ d. bound_slot c.args.seats.now d i) (sym here)
+            | inr other ↦
+                ap (λ row. get_or row i None) (get_or-set_other c.loop-domain.rows c.from.result k c.row_of.result [] (λ e. other (e ∙ at)))
+                ∙ c.loop-domain.invariant.1 k i (omega arith)
+          ],
     )
 
 pub returns : goal.returns
