@@ -30,6 +30,24 @@ const SAYS_EACH: &[u8] = b"SOSM\x01\x02\0\0\0\0\0\0\0\x04\0\x82\xE4\x0E\x94\x08\
 const POSTS: &[u8] =
     b"SOSM\x01\x01\0\0\0\0\0\0\0\x06\0\x82\xE0\x69\xE0\0\xE0\x0E\x94\x03\xF1\x08\x95";
 
+/// Module 1 posts to module 2 and says the answer: E082 E069 E000 940E F103 940E F108 9508.
+const POSTS_AND_TELLS: &[u8] =
+    b"SOSM\x01\x01\0\0\0\0\0\0\0\x08\0\x82\xE0\x69\xE0\0\xE0\x0E\x94\x03\xF1\
+    \x0E\x94\x08\xF1\x08\x95";
+
+/// Module 1 posts seventeen times to module 2 and says the last answer: E069 E000, then seventeen
+/// times E082 940E F103, then 940E F108 9508.
+const FILLS: &[u8] = b"SOSM\x01\x01\0\0\0\0\0\0\0\x38\0\
+    \x69\xE0\0\xE0\x82\xE0\x0E\x94\x03\xF1\x82\xE0\x0E\x94\x03\xF1\x82\xE0\x0E\x94\x03\xF1\
+    \x82\xE0\x0E\x94\x03\xF1\x82\xE0\x0E\x94\x03\xF1\x82\xE0\x0E\x94\x03\xF1\
+    \x82\xE0\x0E\x94\x03\xF1\x82\xE0\x0E\x94\x03\xF1\x82\xE0\x0E\x94\x03\xF1\
+    \x82\xE0\x0E\x94\x03\xF1\x82\xE0\x0E\x94\x03\xF1\x82\xE0\x0E\x94\x03\xF1\
+    \x82\xE0\x0E\x94\x03\xF1\x82\xE0\x0E\x94\x03\xF1\x82\xE0\x0E\x94\x03\xF1\
+    \x82\xE0\x0E\x94\x03\xF1\x82\xE0\x0E\x94\x03\xF1\x0E\x94\x08\xF1\x08\x95";
+
+/// Module 2 does nothing: 9508.
+const IDLES: &[u8] = b"SOSM\x01\x02\0\0\0\0\0\0\0\x01\0\x08\x95";
+
 /// Eight modules that do nothing: 9508.
 const RETURNS: &[&[u8]] = &[
     b"SOSM\x01\x01\0\0\0\0\0\0\0\x01\0\x08\x95",
@@ -57,6 +75,19 @@ const SEVEN_LOADED: &str = "0 load 1 0 0000\n0 run 1 0 0\n0 done 1\n\
     5 load 6 5 0000\n5 run 6 0 0\n5 done 6\n\
     6 load 7 6 0000\n6 run 7 0 0\n6 done 7\n\
     7 refused 7 5 0 0 0\n7 end idle\n";
+
+/// The queue holds sixteen: the seventeenth post answers 1.
+const FILLED: &str =
+    "0 load 2 0 0000\n0 run 2 0 0\n0 done 2\n1 load 1 1 0000\n1 run 1 0 0\n37 say 1 1\n38 done 1\n\
+    39 run 2 9 1\n39 done 2\n40 run 2 9 1\n40 done 2\n\
+    41 run 2 9 1\n41 done 2\n42 run 2 9 1\n42 done 2\n\
+    43 run 2 9 1\n43 done 2\n44 run 2 9 1\n44 done 2\n\
+    45 run 2 9 1\n45 done 2\n46 run 2 9 1\n46 done 2\n\
+    47 run 2 9 1\n47 done 2\n48 run 2 9 1\n48 done 2\n\
+    49 run 2 9 1\n49 done 2\n50 run 2 9 1\n50 done 2\n\
+    51 run 2 9 1\n51 done 2\n52 run 2 9 1\n52 done 2\n\
+    53 run 2 9 1\n53 done 2\n54 run 2 9 1\n54 done 2\n\
+    55 end idle\n";
 
 /// The names of the images.
 const NAMES: [&str; 8] = ["a", "b", "c", "d", "e", "f", "g", "h"];
@@ -222,6 +253,20 @@ const ROWS: &[Row] = &[
         images: &[SAYS],
         status: Status::Done,
         text: "0 absent 9\n0 end idle\n",
+    },
+    Row {
+        words: "run s a",
+        script: LOAD,
+        images: &[POSTS_AND_TELLS],
+        status: Status::Done,
+        text: "0 load 1 0 0000\n0 run 1 0 0\n4 say 1 2\n5 done 1\n6 end idle\n",
+    },
+    Row {
+        words: "run s a b",
+        script: "0 load 0\n0 load 1\n",
+        images: &[IDLES, FILLS],
+        status: Status::Done,
+        text: FILLED,
     },
     Row {
         words: "run s x",
