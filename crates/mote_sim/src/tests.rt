@@ -1,7 +1,7 @@
 //! Runs of the top call over files and a sink in memory. Code words stand low byte first.
 
 use crate::mote_main;
-use mote_base::{MemShelf, MemSink, NoMemory, Status, Word};
+use mote_base::{MemShelf, MemSink, NoMemory, Sink, Status, SureSink, Word};
 use std::alloc::Global;
 use std::test::Fail;
 
@@ -29,6 +29,10 @@ const SAYS_EACH: &[u8] = b"SOSM\x01\x02\0\0\0\0\0\0\0\x04\0\x82\xE4\x0E\x94\x08\
 /// Module 1 posts a message of type 9 to module 2 at each: E082 E069 E000 940E F103 9508.
 const POSTS: &[u8] =
     b"SOSM\x01\x01\0\0\0\0\0\0\0\x06\0\x82\xE0\x69\xE0\0\xE0\x0E\x94\x03\xF1\x08\x95";
+
+/// Module 2 posts a message of type 9 to module 1 at each: E081 E069 E000 940E F103 9508.
+const POSTS_BACK: &[u8] =
+    b"SOSM\x01\x02\0\0\0\0\0\0\0\x06\0\x81\xE0\x69\xE0\0\xE0\x0E\x94\x03\xF1\x08\x95";
 
 /// Module 1 posts to module 2 and says the answer: E082 E069 E000 940E F103 940E F108 9508.
 const POSTS_AND_TELLS: &[u8] =
@@ -111,11 +115,11 @@ fn shelf_with(
 
 /// The top call on words that are parted by spaces.
 #[tactic(auto, using(crate::proofs::Admitted::all_admitted))]
-fn answer(
+fn answer<W: Sink>(
     alloc: Global,
     line: &str,
     shelf: &mut MemShelf,
-    out: &mut MemSink,
+    out: &mut W,
 ) -> Result<Status, NoMemory> {
     let mut words = Vec::new(alloc);
     for word in line.split(' ') {
@@ -286,6 +290,20 @@ fn answers_are_the_worked_ones(rt: HostRuntime) -> Result<(), Fail> {
         assert_eq!(rt; answer(alloc, row.words, &mut shelf, &mut out)?, row.status);
         assert_eq!(rt; out.bytes(), row.text.as_bytes());
     }
+    Ok(())
+}
+
+/// Two that post to each other without end: the run ends at the budget, with 400,004 lines of so many bytes.
+#[test]
+fn endless_posts_end_at_the_budget(rt: HostRuntime) -> Result<(), Fail> {
+    let alloc = rt.alloc();
+    let mut shelf = shelf_with(alloc, b"0 load 0\n0 load 1\n", &[POSTS, POSTS_BACK], NEVER)?;
+    let mut out = SureSink::new();
+    assert_eq!(rt;
+        answer(alloc, "run s a b", &mut shelf, &mut out)?,
+        Status::Done
+    );
+    assert_eq!(rt; out.total(), 6_155_625);
     Ok(())
 }
 
