@@ -1,5 +1,6 @@
 pub mod Astray
 pub mod Chain
+pub mod Entered
 pub mod FirstItem
 pub mod FirstLaw
 pub mod FirstRefused

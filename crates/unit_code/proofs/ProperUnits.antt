@@ -157,6 +157,13 @@ no_refusal words marks h =
     let second = neither (refusal_of_units words (units_of words)) (stray_mark (places_of words) marks) first.1 in
     (first.0, second.0, second.1)
 
+-- there are as many places as units
+pub same_count : (words marks : List ℕ) → refusal words marks ≡ None → AreSound (items_of words) → length (places_of words) ≡ length (units_of words)
+same_count words marks h sound =
+    let items = items_of words in
+    let made = units_made (places_of words) items (clean_items (places_of words) items (no_refusal words marks h).0) sound in
+    length-map items (λ item. item.place) ∙ sym made.same_length
+
 pub proper_units : (words marks : List ℕ) → refusal words marks ≡ None → AreSound (items_of words) → IsProper (units_of words)
 proper_units words marks h sound =
     let parts = no_refusal words marks h in

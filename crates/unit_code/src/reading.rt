@@ -4,6 +4,7 @@ ghost use Rattle.std.specs.Prelude.{◌≡◌, ◌⊎◌, ◌≤◌, length, map
 ghost use Rattle.std.specs.List.{filter_map};
 ghost use Rattle.unit_code.specs.Items.{items_of};
 ghost use Rattle.unit_code.specs.Law.{IsFirst, NoneHolds};
+ghost use Rattle.unit_code.specs.Listing.{FitsTogether};
 ghost use Rattle.unit_code.specs.Proper.{IsProper};
 ghost use Rattle.unit_code.specs.Sound.{AreSound};
 ghost use Rattle.unit_code.specs.Targets.{AreFirstWords, number_of};
@@ -22,7 +23,7 @@ use std::alloc::Global;
 /// The units of the words, with the unit numbers of the marks.
 ///
 /// The words are at most 65,535, so that a place is a u16. A mark is a word of the code at which it is entered.
-#[tactic(auto, using(crate::proofs::ProperUnits::proper_listed))]
+#[tactic(auto, using(crate::proofs::ProperUnits::proper_listed, crate::proofs::Entered::fits_together))]
 pub fn units(alloc: Global, code: &Words<'_>, marks: &[u16]) -> Result<UnitList, CodeError>
     requires { length code.now ≤ 65535 }
     ensures ok { IfOk result (λ list. (refusal code.now marks.now ≡ None) × (list ≡ listed code.now marks.now)) }
@@ -30,6 +31,7 @@ pub fn units(alloc: Global, code: &Words<'_>, marks: &[u16]) -> Result<UnitList,
 
     // What the list is like, and why it is refused, in the words of the conditions.
     ensures proper { IfOk result (λ list. IsProper list.units) }
+    ensures together { IfOk result (λ list. FitsTogether list marks.now) }
     ensures first { MatchResult result (λ _. NoneHolds code.now marks.now) (λ e. (e ≡ CodeError.NoMemory) ⊎ IsFirst code.now marks.now e) }
 {
     listing(alloc, code, marks)
