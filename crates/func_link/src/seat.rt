@@ -3,7 +3,6 @@
 ghost use Rattle.std.specs.Prelude.{◌≡◌, ◌<◌, length, slice_get, IfSome};
 ghost use Rattle.module_image.specs.Links.{place_of, serves};
 
-use arrayvec::ArrayVec;
 use module_image::{Face, Provided, Subscribed};
 use std::marker::Model;
 
@@ -29,11 +28,7 @@ impl Seat {
     {
         Seat {
             domain,
-            face: Face {
-                id: face.id,
-                provided: copied(&face.provided),
-                subscribed: copied(&face.subscribed),
-            },
+            face: face.copied(),
         }
     }
 
@@ -79,14 +74,4 @@ fn serves(subscribed: &Subscribed, provided: &Provided) -> bool
     ensures { result ≡ serves subscribed.now provided.now }
 {
     provided.func == subscribed.func && provided.proto == subscribed.proto
-}
-
-fn copied<T: Copy + Default + Drop, const N: usize>(items: &ArrayVec<T, N>) -> ArrayVec<T, N>
-    ensures { result.items ≡ items.now.items }
-{
-    let mut copy = ArrayVec::new();
-    for item in items.as_slice() {
-        copy.push(*item);
-    }
-    copy
 }

@@ -93,11 +93,7 @@ impl<'a> ImageView<'a> {
     pub fn face(&self) -> Face
         ensures { result ≡ self.now.face }
     {
-        Face {
-            id: self.face.id,
-            provided: copied(&self.face.provided),
-            subscribed: copied(&self.face.subscribed),
-        }
+        self.face.copied()
     }
 
     /// The code words at which the kernel or another module enters: the handler word, then the provided words.
@@ -111,14 +107,4 @@ impl<'a> ImageView<'a> {
         }
         marks
     }
-}
-
-fn copied<T: Copy + Default + Drop>(items: &ArrayVec<T, 16>) -> ArrayVec<T, 16>
-    ensures { result.items ≡ items.now.items }
-{
-    let mut copy = ArrayVec::new();
-    for item in items.as_slice() {
-        copy.push(*item);
-    }
-    copy
 }

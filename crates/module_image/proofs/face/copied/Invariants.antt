@@ -1,5 +1,5 @@
 use Rattle.std.proofs.Common.{◌≡◌, take}
-use Rattle.func_link.proofs.seat.copied.Given as goal
+use Rattle.module_image.proofs.face.copied.Given as goal
 
 abbrev pub invariant-loop-item : goal.invariant-loop-item
 invariant-loop-item g l = l.copy.items ≡ take l.item-index l.item-items
