@@ -1,0 +1,4 @@
+pub mod Digits
+pub mod Operands
+pub mod Instructions
+pub mod Lines
