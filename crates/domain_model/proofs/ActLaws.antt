@@ -1,22 +1,23 @@
 -- What one unit does: it changes the processor and the queues alone, keeps the stack pointer, and leaves a next unit.
-use Rattle.std.proofs.Common.{◌≡◌, ℕ, zero, suc, ◌+◌, ◌<◌, ◌≤◌, inl, inr, ◌==◌, ◌&&◌, nat_lt, nat_le, List, [], ◌∷◌, ◌++◌, length, Bool, true, false, refl, sym, ap, ◌∙◌, subst, arith, Option, Some, None, slice_get}
+use Rattle.std.proofs.Common.{◌≡◌, ℕ, zero, suc, ◌+◌, ◌<◌, ◌≤◌, inl, inr, ◌==◌, ◌&&◌, nat_lt, nat_le, List, [], ◌∷◌, ◌++◌, length, Bool, true, false, refl, subst, arith, Option, Some, None, slice_get}
 use Rattle.std.specs.List.{Contains}
-use Rattle.std.proofs.lemmas.Bool.{cond_both, or_cases, and_parts, ltb-true, leb-true, true≢false}
-use Rattle.std.proofs.lemmas.Option.{none-some, same_Some}
+use Rattle.std.proofs.lemmas.Bool.{cond_both, or_cases, and_parts, ltb-true, leb-true}
 use Rattle.std.proofs.lemmas.List.{length-set, length-append}
 use Rattle.avr_isa.specs.declared.instruction.Instr.{Instr}
 use Rattle.avr_isa.specs.declared.instruction.Instr.TheVariants.{Ldi, Mov, StX}
 use Rattle.mote_base.specs.Messages.{Lists, list_of, in_order, queue_limit}
 use Rattle.mote_layout.specs.Memory.{ram_start, ram_end, bank_words}
 use Rattle.mote_layout.specs.Blocks.{owns}
-use Rattle.domain_model.specs.declared.unit.Unit.{Unit}
-use Rattle.domain_model.specs.declared.unit.Unit.TheVariants.{Plain, Store, KernelCall, Return}
+use Rattle.unit_code.specs.declared.unit.Unit.{Unit}
+use Rattle.unit_code.specs.declared.unit.Unit.TheVariants.{Plain, Store, KernelCall, Return}
 use Rattle.domain_model.specs.declared.handler.Running.{Running}
 use Rattle.domain_model.specs.declared.line.TraceLine.TheVariants as line
 use Rattle.domain_model.specs.State.{Processor, Message, KernelState, RunnerState}
 use Rattle.domain_model.specs.Act.{act, act_running, act_at, act_store, act_return, act_call, is_loaded, message_of, post_where, post_to, plain_effect, store_effect, store_address, may_store, bank, next_unit}
-use Rattle.domain_model.specs.Units.{IsBuilt, AreProper, Service, PostShort, Say, MyId, service_of, is_return, ends_in_return}
+use Rattle.domain_model.specs.Units.{IsBuilt, AreProper, Service, PostShort, Say, MyId, service_of}
 use Rattle.domain_model.specs.Good.{GoodMachine, GoodModule, GoodHandler, GoodRunning, GoodHand, GoodEnding}
+use Rattle.unit_code.specs.Ends.{leaves}
+use Rattle.domain_model.proofs.UnitLaws.{proper_fits, not_last}
 use Rattle.domain_model.proofs.Kept.{each_at, each_contained, contained_nowhere, contained_cases}
 use Rattle.domain_model.proofs.ModuleLaws.{found}
 use Rattle.domain_model.proofs.BlockLaws.{owned_in_heap}
@@ -58,6 +59,7 @@ alone_at (Some (Plain i)) run k r = refl
 alone_at (Some (Store i)) run k r = alone_store (may_store k run (store_address k.processor)) i k r
 alone_at (Some (KernelCall n)) run k r = alone_call (service_of n) run k r
 alone_at (Some Return) run k r = alone_return (k.processor.sp == run.base) k r
+alone_at (Some _) run k r = refl
 
 alone_running : (o : Option Running) (k : KernelState) (r : RunnerState) → Alone k (act_running o k r).kernel
 alone_running None k r = refl
@@ -100,6 +102,7 @@ more_at (Some (Plain i)) run k r = omega arith
 more_at (Some (Store i)) run k r = more_store (may_store k run (store_address k.processor)) i k r
 more_at (Some (KernelCall n)) run k r = more_call (service_of n) run k r
 more_at (Some Return) run k r = more_return (k.processor.sp == run.base) k r
+more_at (Some _) run k r = omega arith
 
 more_running : (o : Option Running) (k : KernelState) (r : RunnerState) → length (in_order (act_running o k r).kernel.queues) ≤ length (in_order k.queues) + 1
 more_running None k r = omega arith
@@ -161,18 +164,11 @@ unit_is_built k r run u h i e = each_at IsBuilt (bank r run.domain) r.unit u (ba
 
 -- its number is that of a word of a bank
 pub unit_in_bank : (k : KernelState) (r : RunnerState) (run : Running) → GoodMachine k r → k.running ≡ Some run → r.unit < bank_words
-unit_in_bank k r run h i = omega (arith, (running_good k r run h i).0.unit, (bank_proper k r run h i).fits)
+unit_in_bank k r run h i = omega (arith, (running_good k r run h i).0.unit, proper_fits (bank r run.domain) (bank_proper k r run h i).proper)
 
--- behind a unit that is no return stands another
-not_last : (us : List Unit) (i : ℕ) (u : Unit) → ends_in_return us ≡ true → slice_get us i ≡ Some u → is_return u ≡ false → i + 1 < length us
-not_last [] i u ends e other = absurd (none-some u e)
-not_last (x ∷ []) zero u ends e other = absurd (true≢false (sym ends ∙ ap is_return (same_Some x u e) ∙ other))
-not_last (x ∷ []) (suc i) u ends e other = absurd (none-some u e)
-not_last (x ∷ y ∷ us) zero u ends e other = omega arith
-not_last (x ∷ y ∷ us) (suc i) u ends e other = let rest = not_last (y ∷ us) i u ends e other in omega (arith, rest)
-
-pub unit_behind : (k : KernelState) (r : RunnerState) (run : Running) (u : Unit) → GoodMachine k r → k.running ≡ Some run → next_unit r run ≡ Some u → is_return u ≡ false → r.unit + 1 < length (bank r run.domain)
-unit_behind k r run u h i e other = not_last (bank r run.domain) r.unit u (bank_proper k r run h i).ends e other
+-- behind a unit that control goes on from stands another
+pub unit_behind : (k : KernelState) (r : RunnerState) (run : Running) (u : Unit) → GoodMachine k r → k.running ≡ Some run → next_unit r run ≡ Some u → leaves u ≡ false → r.unit + 1 < length (bank r run.domain)
+unit_behind k r run u h i e on = not_last (bank r run.domain) r.unit u (bank_proper k r run h i).proper.ends e on
 
 -- A permitted store lies in the memory.
 
@@ -210,6 +206,7 @@ quiet_at (Some (Plain i)) run k r time id c = contained_nowhere (line.Unload tim
 quiet_at (Some (Store i)) run k r time id c = quiet_store (may_store k run (store_address k.processor)) i k r time id c
 quiet_at (Some (KernelCall n)) run k r time id c = quiet_call (service_of n) run k r time id c
 quiet_at (Some Return) run k r time id c = quiet_return (k.processor.sp == run.base) k r time id c
+quiet_at (Some _) run k r time id c = contained_nowhere (line.Unload time id) c
 
 quiet_running : (o : Option Running) (k : KernelState) (r : RunnerState) (time id : ℕ) → Contains (act_running o k r).lines (line.Unload time id) → ⊥
 quiet_running None k r time id c = contained_nowhere (line.Unload time id) c

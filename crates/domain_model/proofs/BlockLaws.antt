@@ -11,8 +11,7 @@ use Rattle.mote_layout.specs.declared.segment.Segment.{Segment}
 use Rattle.mote_layout.proofs.BlockLists.{AreBlocks-inserted}
 use Rattle.mote_layout.proofs.Owners.{covers-true}
 use Rattle.mote_layout.proofs.LeastFit.{fit-some}
-use Rattle.domain_model.specs.declared.module.ModuleRow.{ModuleRow}
-use Rattle.domain_model.specs.State.{KernelState, with_zeros}
+use Rattle.domain_model.specs.State.{Loaded, KernelState, with_zeros}
 use Rattle.domain_model.specs.Turn.{in_use, free_domain, Given, given_at, given_where, given, without_domain}
 use Rattle.domain_model.specs.Good.{AreOwned}
 use Rattle.domain_model.proofs.Kept.{each_weaker, each_filter}
@@ -46,7 +45,7 @@ least_of_within test low (suc count) k e =
     ]
 
 -- a free domain is a domain, and no module is in it
-pub free_domain_is_free : (modules : List ModuleRow) (domain : ℕ) → free_domain modules ≡ Some domain → (domain < domain_count) × (in_use modules domain ≡ false)
+pub free_domain_is_free : (modules : List Loaded) (domain : ℕ) → free_domain modules ≡ Some domain → (domain < domain_count) × (in_use modules domain ≡ false)
 free_domain_is_free modules domain e =
     let found = least_of_within (λ d. not (in_use modules d)) 0 domain_count domain e in
     (omega (arith, found.0), not-true (in_use modules domain) found.1)
@@ -74,7 +73,7 @@ each_inserted P s (t ∷ ts) p h =
 -- What a state block leaves: *Blocks*, whose owners are the old ones and the domain, and a memory as long.
 pub record GoodGiven (k : KernelState) (domain : ℕ) (g : Given) : Type 0 where
   pub blocks : AreBlocks g.blocks
-  pub owners : (modules : List ModuleRow) → AreOwned modules k.blocks → in_use modules domain ≡ true → AreOwned modules g.blocks
+  pub owners : (modules : List Loaded) → AreOwned modules k.blocks → in_use modules domain ≡ true → AreOwned modules g.blocks
   pub memory : length g.memory ≡ length k.processor.memory
 
 given_at_good : (o : Option ℕ) (k : KernelState) (domain count : ℕ) (g : Given) → AreBlocks k.blocks → length k.processor.memory ≡ 4096 → domain < domain_count → 1 ≤ count → fit k.blocks count ≡ o → given_at o k domain count ≡ Some g → GoodGiven k domain g
@@ -103,12 +102,12 @@ pub given_good : (k : KernelState) (domain size : ℕ) (g : Given) → AreBlocks
 given_good k domain size g blocks memory below h = given_where_good (size == 0) k domain size g blocks memory below refl h
 
 -- a module comes in: the old blocks keep their owners
-pub owned_more : (modules more : List ModuleRow) → ((domain : ℕ) → in_use modules domain ≡ true → in_use more domain ≡ true) → (blocks : List Segment) → AreOwned modules blocks → AreOwned more blocks
+pub owned_more : (modules more : List Loaded) → ((domain : ℕ) → in_use modules domain ≡ true → in_use more domain ≡ true) → (blocks : List Segment) → AreOwned modules blocks → AreOwned more blocks
 owned_more modules more f blocks h =
     each_weaker (λ (b : Segment). in_use modules b.owner ≡ true) (λ (b : Segment). in_use more b.owner ≡ true) (λ b e. f b.owner e) blocks h
 
 -- a module goes out with its blocks: the other blocks keep their owners
-pub owned_without : (modules : List ModuleRow) (gone : ℕ) (blocks : List Segment) → AreOwned modules blocks → AreOwned (without_domain gone modules) (without_owner gone blocks)
+pub owned_without : (modules : List Loaded) (gone : ℕ) (blocks : List Segment) → AreOwned modules blocks → AreOwned (without_domain gone modules) (without_owner gone blocks)
 owned_without modules gone blocks h =
     each_filter (λ (b : Segment). in_use modules b.owner ≡ true) (λ (b : Segment). in_use (without_domain gone modules) b.owner ≡ true)
     (λ (b : Segment). not (b.owner == gone))

@@ -3,14 +3,13 @@ use Rattle.std.proofs.Common.{◌≡◌, ℕ, ◌≤◌, not, List, [], ◌∷�
 use Rattle.std.proofs.lemmas.Option.{none-some}
 use Rattle.std.proofs.lemmas.List.{length-append}
 use Rattle.mote_base.specs.Messages.{in_order, names}
-use Rattle.domain_model.specs.declared.module.ModuleRow.{ModuleRow}
 use Rattle.domain_model.specs.declared.handler.Running.{Running}
 use Rattle.domain_model.specs.declared.fault.FaultNote.{FaultNote}
 use Rattle.domain_model.specs.declared.fault.UnitEnd.{UnitEnd}
 use Rattle.domain_model.specs.declared.fault.UnitEnd.TheVariants.{On, Over, Fault}
 use Rattle.domain_model.specs.declared.line.TraceLine.{TraceLine}
 use Rattle.domain_model.specs.declared.line.TraceLine.TheVariants as line
-use Rattle.domain_model.specs.State.{Message, KernelState, RunnerState}
+use Rattle.domain_model.specs.State.{Loaded, Message, KernelState, RunnerState}
 use Rattle.domain_model.specs.Act.{id_at}
 use Rattle.domain_model.specs.Turn.{module_named, without_domain, unnamed, emptied, ended, purged, handler_ended, close_module, close, settled, faulted}
 use Rattle.domain_model.specs.Good.{GoodMachine, GoodEnding}
@@ -35,9 +34,9 @@ fewer_named id k = omega (
   filter_shorter (λ (m : Message). not (names id m)) k.queues.low,
 )
 
-module_rests : (o : Option ModuleRow) (k : KernelState) (r : RunnerState) (lines : List TraceLine) → Rests k (close_module o k r lines).kernel
+module_rests : (o : Option Loaded) (k : KernelState) (r : RunnerState) (lines : List TraceLine) → Rests k (close_module o k r lines).kernel
 module_rests None k r lines = record { clock = refl; processor = refl; running = refl; hand = refl; fewer = omega arith }
-module_rests (Some row) k r lines = record { clock = refl; processor = refl; running = refl; hand = refl; fewer = fewer_named row.id k }
+module_rests (Some row) k r lines = record { clock = refl; processor = refl; running = refl; hand = refl; fewer = fewer_named row.face.id k }
 
 pub close_rests : (o : Option ℕ) (k : KernelState) (r : RunnerState) (lines : List TraceLine) → Rests k (close o k r lines).kernel
 close_rests None k r lines = record { clock = refl; processor = refl; running = refl; hand = refl; fewer = omega arith }
@@ -81,20 +80,20 @@ module _ (k : KernelState) (r : RunnerState) (run : Running) (h : GoodMachine k 
   found_no_more =
       let f = found k.modules run.domain (running_good k r run h i).0.loaded in
       ap (λ (id : ℕ). module_named (without_domain run.domain k.modules) id) (found_id k.modules run.domain f)
-      ∙ subst (λ (domain : ℕ). module_named (without_domain domain k.modules) f.row.id ≡ None) f.domain_of (named_without k.modules f.row h.distinct f.contained)
+      ∙ subst (λ (domain : ℕ). module_named (without_domain domain k.modules) f.row.face.id ≡ None) f.domain_of (named_without k.modules f.row h.distinct f.contained)
 
   faulted_by : (o : Option ℕ) (s : RunnerState) (lines : List TraceLine) → k.ending ≡ o → GoodEnding k run o → close o (purged (handler_ended k) (id_at k.modules run.domain) run.domain) s lines ≡ record { kernel = gone k (id_at k.modules run.domain) run.domain; runner = s; lines = lines }
   faulted_by None s lines e same =
       ap (λ (x : Option ℕ). record { kernel = record (purged (handler_ended k) (id_at k.modules run.domain) run.domain) { ending = x }; runner = s; lines = lines }) e
   faulted_by (Some id) s lines e same =
-      ap (λ (x : Option ModuleRow). close_module x (purged (handler_ended k) (id_at k.modules run.domain) run.domain) s lines)
+      ap (λ (x : Option Loaded). close_module x (purged (handler_ended k) (id_at k.modules run.domain) run.domain) s lines)
       (ap (λ (x : ℕ). module_named (without_domain run.domain k.modules) x) same ∙ found_no_more)
 
   -- a fault purges the module of the running domain, and no other
   pub faulted_is : (note : FaultNote) (lines : List TraceLine) → faulted note run k r lines ≡ record { kernel = gone k (id_at k.modules run.domain) run.domain; runner = emptied r run.domain; lines = lines ++ line.Fault k.clock note.rule (id_at k.modules run.domain) r.unit note.address ∷ line.Unload k.clock (id_at k.modules run.domain) ∷ [] }
   faulted_is note lines = faulted_by k.ending (emptied r run.domain) _ refl (running_good k r run h i).2
 
-  over_by : (o : Option ModuleRow) (id : ℕ) (lines : List TraceLine) → module_named k.modules id ≡ o → id ≡ id_at k.modules run.domain → close_module o (handler_ended k) r lines ≡ record { kernel = gone k (id_at k.modules run.domain) run.domain; runner = emptied r run.domain; lines = lines ++ line.Unload k.clock (id_at k.modules run.domain) ∷ [] }
+  over_by : (o : Option Loaded) (id : ℕ) (lines : List TraceLine) → module_named k.modules id ≡ o → id ≡ id_at k.modules run.domain → close_module o (handler_ended k) r lines ≡ record { kernel = gone k (id_at k.modules run.domain) run.domain; runner = emptied r run.domain; lines = lines ++ line.Unload k.clock (id_at k.modules run.domain) ∷ [] }
   over_by None id lines e same =
       let there = loaded_named k.modules (id_at k.modules run.domain) (id_at_loaded k.modules run.domain (running_good k r run h i).0.loaded) in
       absurd (none-some there.0 (sym e ∙ ap (λ (x : ℕ). module_named k.modules x) same ∙ there.1))

@@ -6,8 +6,8 @@ use Rattle.avr_isa.specs.declared.instruction.Instr.{Instr}
 use Rattle.avr_isa.specs.declared.instruction.Instr.TheVariants.{StX}
 use Rattle.mote_layout.specs.Memory.{ram_start, red_zone_start, kernel_bytes_start, kernel_bytes_end}
 use Rattle.mote_layout.specs.Blocks.{owns}
-use Rattle.domain_model.specs.declared.unit.Unit.{Unit}
-use Rattle.domain_model.specs.declared.unit.Unit.TheVariants.{Plain, Store, KernelCall, Return}
+use Rattle.unit_code.specs.declared.unit.Unit.{Unit}
+use Rattle.unit_code.specs.declared.unit.Unit.TheVariants.{Plain, Store, KernelCall, Return}
 use Rattle.domain_model.specs.declared.event.Choice.TheVariants.{Acts}
 use Rattle.domain_model.specs.declared.fault.UnitEnd.{UnitEnd}
 use Rattle.domain_model.specs.declared.fault.UnitEnd.TheVariants.{On, Over, Fault}
@@ -80,6 +80,7 @@ own_at (Some (Store u)) k r run h i call on =
     (λ e. ((store_in_memory k r run (store_address k.processor) h i e).0, permitted k r run (store_address k.processor) (running_good k r run h i).0 e)) on
 own_at (Some (KernelCall n)) k r run h i call on = absurd (cc)
 own_at (Some Return) k r run h i call on = own_return (k.processor.sp == run.base) k r run on
+own_at (Some _) k r run h i call on = absurd (cc)
 
 -- the same for the unit that is next
 own_running : (o : Option Running) (k : KernelState) (r : RunnerState) (run : Running) → GoodMachine k r → k.running ≡ Some run → o ≡ Some run → enters_from o r (act_running o k r).ending ≡ false → OwnUnit k run (act_running o k r) × ((act_running o k r).ending ≡ On)
@@ -170,6 +171,7 @@ at_end (Some (Plain i)) run k r e = absurd (cc)
 at_end (Some (Store i)) run k r e = store_end (may_store k run (store_address k.processor)) i k r e
 at_end (Some (KernelCall n)) run k r e = call_end (service_of n) run k r e
 at_end (Some Return) run k r e = return_end (k.processor.sp == run.base) k r e
+at_end (Some _) run k r e = refl
 
 running_end : (o : Option Running) (k : KernelState) (r : RunnerState) → ends_handler (act_running o k r).ending ≡ true → (act_running o k r).kernel ≡ k
 running_end None k r e = refl

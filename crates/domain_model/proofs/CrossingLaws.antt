@@ -1,8 +1,7 @@
 -- Crossing: the running domain changes only by a dispatch while none runs, and by the handler's end.
-use Rattle.std.proofs.Common.{◌≡◌, ℕ, List, [], Bool, true, false, refl, sym, ap, ◌∙◌, subst, Option, Some, None, slice_get}
+use Rattle.std.proofs.Common.{◌≡◌, ℕ, List, [], Bool, true, false, refl, sym, ap, ◌∙◌, subst, Option, Some, None, Ok, Err, slice_get}
 use Rattle.std.proofs.lemmas.List.Elements.{Contains-push}
 use Rattle.mote_base.specs.Messages.{front}
-use Rattle.domain_model.specs.declared.module.ModuleRow.{ModuleRow}
 use Rattle.domain_model.specs.declared.event.What.{What}
 use Rattle.domain_model.specs.declared.event.What.TheVariants as what
 use Rattle.domain_model.specs.declared.event.Choice.{Choice}
@@ -11,10 +10,10 @@ use Rattle.domain_model.specs.declared.fault.UnitEnd.{UnitEnd}
 use Rattle.domain_model.specs.declared.fault.UnitEnd.TheVariants.{On, Over, Fault}
 use Rattle.domain_model.specs.declared.handler.Running.{Running}
 use Rattle.domain_model.specs.declared.line.TraceLine.{TraceLine}
-use Rattle.domain_model.specs.Image.{Module}
-use Rattle.domain_model.specs.State.{Message, KernelState, RunnerState, State}
+use Rattle.domain_model.specs.Prepared.{Module, Prep}
+use Rattle.domain_model.specs.State.{Loaded, Message, KernelState, RunnerState, State}
 use Rattle.domain_model.specs.Act.{Acted, is_loaded}
-use Rattle.domain_model.specs.Turn.{Given, given, free_domain, module_named, handler_ended, unload_module, deliver, dispatch, faulted, watchdog, row_of, init_to, final_to, Moved, refused, came, load_image, load_new, load_in, load_given, made_of, settled, counted, choice, made, May, Turn}
+use Rattle.domain_model.specs.Turn.{Given, given, free_domain, module_named, handler_ended, unload_module, deliver, dispatch, faulted, watchdog, seated, refused_file, init_to, final_to, Moved, refused, came, load_image, load_prepared, load_new, load_in, load_given, made_of, settled, counted, choice, made, May, Turn}
 use Rattle.domain_model.specs.Laws.{CrossesBy, Crosses}
 use Rattle.domain_model.specs.Facts.{Facts}
 use Rattle.domain_model.proofs.ChoiceLaws.{choice_facts}
@@ -42,13 +41,13 @@ not_started s m out = subst (λ (o : Option Running). CrossesBy None o (made_of 
 given_starts : (o : Option Given) (s : State) (m : Module) (domain image : ℕ) (k : KernelState) (r : RunnerState) → k.running ≡ None → Starts s (load_given o m domain image k r)
 given_starts None s m domain image k r out = not_started s (refused 6 image k r) out
 given_starts (Some g) s m domain image k r out = record {
-  row = row_of m domain g;
-  message = init_to m.id;
-  is_loaded = Contains-push k.modules (row_of m domain g);
+  receiver = seated m domain g;
+  message = init_to m.face.id;
+  is_loaded = Contains-push k.modules (seated m domain g);
   domain = refl;
   unit = refl;
   in_hand = refl;
-  receiver = refl;
+  to = refl;
 }
 
 in_starts : (o : Option ℕ) (s : State) (m : Module) (image : ℕ) (k : KernelState) (r : RunnerState) → k.running ≡ None → Starts s (load_in o m image k r)
@@ -59,41 +58,45 @@ new_starts : (b : Bool) (s : State) (m : Module) (image : ℕ) (k : KernelState)
 new_starts true s m image k r out = not_started s (refused 4 image k r) out
 new_starts false s m image k r out = in_starts (free_domain k.modules) s m image k r out
 
-image_starts : (o : Option (Option Module)) (s : State) (image : ℕ) (k : KernelState) (r : RunnerState) → k.running ≡ None → Starts s (load_image o image k r)
+prepared_starts : (prep : Prep) (s : State) (image : ℕ) (k : KernelState) (r : RunnerState) → k.running ≡ None → Starts s (load_prepared prep image k r)
+prepared_starts (Err refusal) s image k r out = not_started s (refused_file refusal image k r) out
+prepared_starts (Ok m) s image k r out = new_starts (is_loaded k.modules m.face.id) s m image k r out
+
+image_starts : (o : Option (Option Prep)) (s : State) (image : ℕ) (k : KernelState) (r : RunnerState) → k.running ≡ None → Starts s (load_image o image k r)
 image_starts None s image k r out = not_started s (load_image None image k r) out
 image_starts (Some None) s image k r out = not_started s (load_image (Some None) image k r) out
-image_starts (Some (Some m)) s image k r out = new_starts (is_loaded k.modules m.id) s m image k r out
+image_starts (Some (Some prep)) s image k r out = prepared_starts prep s image k r out
 
-unload_starts : (o : Option ModuleRow) (s : State) (id : ℕ) (k : KernelState) (r : RunnerState) → k.running ≡ None → module_named k.modules id ≡ o → Starts s (unload_module o id k r)
+unload_starts : (o : Option Loaded) (s : State) (id : ℕ) (k : KernelState) (r : RunnerState) → k.running ≡ None → module_named k.modules id ≡ o → Starts s (unload_module o id k r)
 unload_starts None s id k r out e = not_started s (unload_module None id k r) out
 unload_starts (Some row) s id k r out e =
     let n = named k.modules id row e in
     record {
-      row = row;
+      receiver = row;
       message = final_to id;
       is_loaded = n.contained;
       domain = refl;
       unit = refl;
       in_hand = refl;
-      receiver = sym n.id_of;
+      to = sym n.id_of;
     }
 
-came_starts : (s : State) (images : List (Option Module)) (w : What) (k : KernelState) (r : RunnerState) → k.running ≡ None → Starts s (came images w k r)
+came_starts : (s : State) (images : List (Option Prep)) (w : What) (k : KernelState) (r : RunnerState) → k.running ≡ None → Starts s (came images w k r)
 came_starts s images (what.Load n) k r out = image_starts (slice_get images n) s n k r out
 came_starts s images (what.Unload id) k r out = unload_starts (module_named k.modules id) s id k r out refl
 
-deliver_starts : (o : Option ModuleRow) (s : State) (m : Message) (k : KernelState) (r : RunnerState) → k.running ≡ None → module_named k.modules m.to ≡ o → Starts s (deliver o m k r)
+deliver_starts : (o : Option Loaded) (s : State) (m : Message) (k : KernelState) (r : RunnerState) → k.running ≡ None → module_named k.modules m.to ≡ o → Starts s (deliver o m k r)
 deliver_starts None s m k r out e = not_started s (deliver None m k r) out
 deliver_starts (Some row) s m k r out e =
     let n = named k.modules m.to row e in
     record {
-      row = row;
+      receiver = row;
       message = m;
       is_loaded = n.contained;
       domain = refl;
       unit = refl;
       in_hand = refl;
-      receiver = sym n.id_of;
+      to = sym n.id_of;
     }
 
 dispatch_starts : (o : Option Message) (s : State) (k : KernelState) (r : RunnerState) → k.running ≡ None → Starts s (dispatch o k r)
@@ -135,13 +138,13 @@ made_crosses (Acts run) s got facts may =
 crosses_bytes : (o n : Option Running) (t : State) (memory : List ℕ) → CrossesBy o n t → CrossesBy o n (with_bytes t memory)
 crosses_bytes None None t memory h = tt
 crosses_bytes None (Some run) t memory h = record {
-  row = h.row;
+  receiver = h.receiver;
   message = h.message;
   is_loaded = h.is_loaded;
   domain = h.domain;
   unit = h.unit;
   in_hand = h.in_hand;
-  receiver = h.receiver;
+  to = h.to;
 }
 crosses_bytes (Some old) None t memory h = h
 crosses_bytes (Some old) (Some new) t memory h = h

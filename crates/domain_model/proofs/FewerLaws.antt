@@ -1,10 +1,9 @@
 -- Each turn of a live state leaves fewer to come.
-use Rattle.std.proofs.Common.{◌≡◌, ℕ, suc, if◌then◌else◌, nat_lt, ◌+◌, ◌<◌, ◌≤◌, List, [], ◌∷◌, ◌++◌, length, drop, Bool, true, false, refl, ap, ◌∙◌, subst, arith, Option, Some, None, slice_get, is_some}
+use Rattle.std.proofs.Common.{Ok, Err, ◌≡◌, ℕ, suc, if◌then◌else◌, nat_lt, ◌+◌, ◌<◌, ◌≤◌, List, [], ◌∷◌, ◌++◌, length, drop, Bool, true, false, refl, ap, ◌∙◌, subst, arith, Option, Some, None, slice_get, is_some}
 use Rattle.std.proofs.lemmas.Bool.{cond-true, lt-ltb, le-ltb}
 use Rattle.std.proofs.lemmas.Option.{none-some, same_Some, slice_get_within}
 use Rattle.std.proofs.lemmas.List.{length-drop}
 use Rattle.mote_base.specs.Messages.{Lists, in_order, front, without_front}
-use Rattle.domain_model.specs.declared.module.ModuleRow.{ModuleRow}
 use Rattle.domain_model.specs.declared.event.Event.{Event}
 use Rattle.domain_model.specs.declared.event.What.{What}
 use Rattle.domain_model.specs.declared.event.What.TheVariants as what
@@ -12,10 +11,10 @@ use Rattle.domain_model.specs.declared.event.Choice.{Choice}
 use Rattle.domain_model.specs.declared.event.Choice.TheVariants.{Stays, Comes, Dispatches, Jumps, Idles, Budgets, Watches, Acts}
 use Rattle.domain_model.specs.declared.event.Turned.TheVariants.{More}
 use Rattle.domain_model.specs.declared.line.TraceLine.{TraceLine}
-use Rattle.domain_model.specs.Image.{Module}
-use Rattle.domain_model.specs.State.{Message, KernelState, RunnerState, State}
+use Rattle.domain_model.specs.Prepared.{Module, Prep}
+use Rattle.domain_model.specs.State.{Loaded, Message, KernelState, RunnerState, State}
 use Rattle.domain_model.specs.Act.{Acted, act, is_loaded}
-use Rattle.domain_model.specs.Turn.{Given, given, free_domain, module_named, load_image, load_new, load_in, load_given, unload_module, deliver, dispatch, made, came, settled, faulted, watchdog, choice, May, Turn}
+use Rattle.domain_model.specs.Turn.{Given, given, free_domain, module_named, load_image, load_prepared, load_new, load_in, load_given, unload_module, deliver, dispatch, made, came, settled, faulted, watchdog, choice, May, Turn}
 use Rattle.domain_model.specs.Good.{Good}
 use Rattle.domain_model.specs.Facts.{Facts}
 use Rattle.domain_model.specs.Remaining.{one_if, is_late, goes_on, remaining}
@@ -57,16 +56,20 @@ new_queues : (b : Bool) (m : Module) (image : ℕ) (k : KernelState) (r : Runner
 new_queues true m image k r = refl
 new_queues false m image k r = in_queues (free_domain k.modules) m image k r
 
-image_queues : (o : Option (Option Module)) (image : ℕ) (k : KernelState) (r : RunnerState) → (load_image o image k r).kernel.queues ≡ k.queues
+prepared_queues : (prep : Prep) (image : ℕ) (k : KernelState) (r : RunnerState) → (load_prepared prep image k r).kernel.queues ≡ k.queues
+prepared_queues (Err refusal) image k r = refl
+prepared_queues (Ok m) image k r = new_queues (is_loaded k.modules m.face.id) m image k r
+
+image_queues : (o : Option (Option Prep)) (image : ℕ) (k : KernelState) (r : RunnerState) → (load_image o image k r).kernel.queues ≡ k.queues
 image_queues None image k r = refl
 image_queues (Some None) image k r = refl
-image_queues (Some (Some m)) image k r = new_queues (is_loaded k.modules m.id) m image k r
+image_queues (Some (Some prep)) image k r = prepared_queues prep image k r
 
-unload_queues : (o : Option ModuleRow) (id : ℕ) (k : KernelState) (r : RunnerState) → (unload_module o id k r).kernel.queues ≡ k.queues
+unload_queues : (o : Option Loaded) (id : ℕ) (k : KernelState) (r : RunnerState) → (unload_module o id k r).kernel.queues ≡ k.queues
 unload_queues None id k r = refl
 unload_queues (Some row) id k r = refl
 
-came_queues : (images : List (Option Module)) (w : What) (k : KernelState) (r : RunnerState) → (came images w k r).kernel.queues ≡ k.queues
+came_queues : (images : List (Option Prep)) (w : What) (k : KernelState) (r : RunnerState) → (came images w k r).kernel.queues ≡ k.queues
 came_queues images (what.Load n) k r = image_queues (slice_get images n) n k r
 came_queues images (what.Unload id) k r = unload_queues (module_named k.modules id) id k r
 
@@ -85,7 +88,7 @@ dispatch_takes s m g e =
     let to = receiver_loaded s.kernel s.runner m g.machine e in
     let made : (dispatch (front s.kernel.queues) s.kernel s.runner).kernel.queues ≡ without_front s.kernel.queues
     = ap (λ (o : Option Message). (dispatch o s.kernel s.runner).kernel.queues) e
-    ∙ ap (λ (o : Option ModuleRow). (deliver o m s.kernel s.runner).kernel.queues) to.found in
+    ∙ ap (λ (o : Option Loaded). (deliver o m s.kernel s.runner).kernel.queues) to.found in
     ap (λ (q : Lists Message). length (in_order q) + 1) made ∙ taken_one s.kernel.queues.high s.kernel.queues.low m e
 
 -- what a turn makes of a live state has fewer to come

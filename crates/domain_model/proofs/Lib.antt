@@ -2,6 +2,7 @@ pub mod Kept
 pub mod ChoiceLaws
 pub mod ModuleLaws
 pub mod BlockLaws
+pub mod UnitLaws
 pub mod ActLaws
 pub mod MachineLaws
 pub mod CloseLaws
@@ -14,5 +15,3 @@ pub mod CrossingLaws
 pub mod UnloadLaws
 pub mod OthersLaws
 pub mod LawfulLaws
-pub mod ImageLaws
-pub mod UnitLaws

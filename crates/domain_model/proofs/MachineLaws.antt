@@ -1,5 +1,5 @@
 -- Kernel and runner stay good: each change of the two on its own.
-use Rattle.std.proofs.Common.{◌≡◌, ◌≢◌, ◌⊎◌, inl, inr, ℕ, ◌+◌, ◌<◌, ◌≤◌, ◌==◌, nat_lt, not, List, [], ◌∷◌, ◌++◌, length, drop, Bool, true, false, refl, sym, ap, ◌∙◌, subst, arith, Option, Some, None, slice_get}
+use Rattle.std.proofs.Common.{◌≡◌, ◌≢◌, ◌⊎◌, inl, inr, ℕ, ◌+◌, ◌<◌, ◌≤◌, ◌==◌, nat_lt, not, List, [], ◌∷◌, ◌++◌, length, drop, Bool, true, false, refl, sym, ap, ◌∙◌, subst, arith, Option, Some, None, Ok, Err, slice_get}
 use Rattle.std.specs.List.{AllByRecursion, Contains}
 use Rattle.std.specs.Option.{unwrap_or}
 use Rattle.std.proofs.lemmas.Bool.{eqb-false, or_parts, cond_both, ltb-true, not-true}
@@ -9,9 +9,8 @@ use Rattle.avr_isa.specs.declared.instruction.Instr.{Instr}
 use Rattle.mote_base.specs.Messages.{Lists, queue_limit, list_of, in_order, front, without_front, appended, names}
 use Rattle.mote_layout.specs.Memory.{domain_count, ram_bytes, message_frame_bytes, stack_top}
 use Rattle.mote_layout.proofs.BlockLists.{AreBlocks-without_owner}
-use Rattle.domain_model.specs.declared.unit.Unit.{Unit}
-use Rattle.domain_model.specs.declared.unit.Unit.TheVariants.{Plain, Store, KernelCall, Return}
-use Rattle.domain_model.specs.declared.module.ModuleRow.{ModuleRow}
+use Rattle.unit_code.specs.declared.unit.Unit.{Unit}
+use Rattle.unit_code.specs.declared.unit.Unit.TheVariants.{Plain, Store, KernelCall, Return}
 use Rattle.domain_model.specs.declared.handler.Running.{Running}
 use Rattle.domain_model.specs.declared.event.What.{What}
 use Rattle.domain_model.specs.declared.event.What.TheVariants as what
@@ -19,13 +18,13 @@ use Rattle.domain_model.specs.declared.fault.FaultNote.{FaultNote}
 use Rattle.domain_model.specs.declared.fault.UnitEnd.{UnitEnd}
 use Rattle.domain_model.specs.declared.fault.UnitEnd.TheVariants.{On, Over, Fault}
 use Rattle.domain_model.specs.declared.line.TraceLine.{TraceLine}
-use Rattle.domain_model.specs.Image.{Module}
+use Rattle.domain_model.specs.Prepared.{Module, Prep}
 use Rattle.domain_model.specs.Units.{AreProper, Service, PostShort, Say, MyId, service_of}
-use Rattle.domain_model.specs.State.{Processor, Message, KernelState, RunnerState, with_processor, with_pair, frame_of, dispatched}
+use Rattle.domain_model.specs.State.{Loaded, Processor, Message, KernelState, RunnerState, with_processor, with_pair, frame_of, dispatched}
 use Rattle.domain_model.specs.Act.{Acted, act, act_running, act_at, act_store, act_return, act_call, answered, id_at, is_loaded, message_of, post_where, post_to, plain_effect, store_effect, store_address, may_store, bank, next_unit}
 use Rattle.domain_model.specs.Free.{SameKernel, with_memory, unit_free, UnitStep}
-use Rattle.domain_model.specs.Turn.{in_use, module_named, without_domain, unnamed, free_domain, Given, given, row_of, init_to, final_to, Moved, loaded, load_given, load_in, load_new, load_image, unload_module, deliver, dispatch, begun, came, ended, close_module, close, settled, faulted, purged, handler_ended, at_clock, placed, emptied, entered}
-use Rattle.domain_model.specs.Good.{GoodProcessor, GoodModule, GoodMachine, GoodHandler, GoodRunning, GoodEnding, GoodQueues, IsKnown, AreDistinct, GoodImage, IsGoodImage}
+use Rattle.domain_model.specs.Turn.{in_use, module_named, without_domain, unnamed, free_domain, Given, given, seated, init_to, final_to, Moved, loaded, load_given, load_in, load_new, load_prepared, load_image, unload_module, deliver, dispatch, begun, came, ended, close_module, close, settled, faulted, purged, handler_ended, at_clock, placed, emptied, entered}
+use Rattle.domain_model.specs.Good.{GoodProcessor, GoodModule, AreEntered, GoodMachine, GoodHandler, GoodRunning, GoodEnding, GoodQueues, IsKnown, AreDistinct, GoodImage, IsGoodImage}
 use Rattle.domain_model.proofs.Kept.{each_weaker, each_filter, each_push, each_at, each_drop, each_contained, each_either, filter_shorter}
 use Rattle.domain_model.proofs.ModuleLaws.{found, found_id, named, loaded_named, contained_loaded, contained_in_use, id_at_loaded, id_at_row, is_loaded_old, is_loaded_without, in_use_old, in_use_new, is_loaded_new, other_domain, all_apart, distinct_push, distinct_filter}
 use Rattle.domain_model.proofs.BlockLaws.{GoodGiven, given_good, free_domain_is_free, owned_more, owned_without}
@@ -42,19 +41,18 @@ bank_other r domain other units ne =
     unwrap_or-slice_get (placed r domain units).banks other [] ∙ get_or-set_other r.banks domain other units [] ne ∙ sym (unwrap_or-slice_get r.banks other [])
 
 -- a module whose bank is the same
-module_kept : (r s : RunnerState) (m : ModuleRow) → bank s m.domain ≡ bank r m.domain → GoodModule r m → GoodModule s m
+module_kept : (r s : RunnerState) (m : Loaded) → bank s m.domain ≡ bank r m.domain → GoodModule r m → GoodModule s m
 module_kept r s m e h = record {
-  least_id = h.least_id;
-  greatest_id = h.greatest_id;
+  face = h.face;
   domain = h.domain;
   units = subst AreProper (sym e) h.units;
-  handler = subst (λ (us : List Unit). m.handler < length us) (sym e) h.handler;
+  entered = subst (λ (us : List Unit). AreEntered us m.face m.handler m.entries) (sym e) h.entered;
 }
 
 same_banks : (r s : RunnerState) → s.banks ≡ r.banks → (domain : ℕ) → bank s domain ≡ bank r domain
 same_banks r s e domain = ap (λ (bs : List (List Unit)). unwrap_or (slice_get bs domain) []) e
 
-modules_kept : (r s : RunnerState) → s.banks ≡ r.banks → (ms : List ModuleRow) → AllByRecursion (GoodModule r) ms → AllByRecursion (GoodModule s) ms
+modules_kept : (r s : RunnerState) → s.banks ≡ r.banks → (ms : List Loaded) → AllByRecursion (GoodModule r) ms → AllByRecursion (GoodModule s) ms
 modules_kept r s e ms h = each_weaker (GoodModule r) (GoodModule s) (λ m. module_kept r s m (same_banks r s e m.domain)) ms h
 
 -- A change of the processor, the clock or the next unit.
@@ -76,7 +74,7 @@ kept_good k n r s modules blocks queues banks processor handler h = record {
 
 running_kept : (k n : KernelState) (r s : RunnerState) (run : Running) → n.processor.sp ≡ k.processor.sp → n.modules ≡ k.modules → s.unit < length (bank s run.domain) → GoodRunning k r run → GoodRunning n s run
 running_kept k n r s run sp modules unit h = record {
-  loaded = subst (λ (ms : List ModuleRow). in_use ms run.domain ≡ true) (sym modules) h.loaded;
+  loaded = subst (λ (ms : List Loaded). in_use ms run.domain ≡ true) (sym modules) h.loaded;
   unit = unit;
   floor = omega (arith, sp, h.floor);
   base = omega (arith, sp, h.base);
@@ -87,7 +85,7 @@ running_kept k n r s run sp modules unit h = record {
 -- the module that ends still runs
 ending_kept : (k n : KernelState) (run : Running) (o : Option ℕ) → n.modules ≡ k.modules → GoodEnding k run o → GoodEnding n run o
 ending_kept k n run None modules h = tt
-ending_kept k n run (Some id) modules h = h ∙ ap (λ (ms : List ModuleRow). id_at ms run.domain) (sym modules)
+ending_kept k n run (Some id) modules h = h ∙ ap (λ (ms : List Loaded). id_at ms run.domain) (sym modules)
 
 -- the same unit is next: the stack pointer, the modules and the message in hand are the same
 handler_kept : (o : Option Running) (k n : KernelState) (r : RunnerState) → n.processor.sp ≡ k.processor.sp → n.modules ≡ k.modules → n.hand ≡ k.hand → n.ending ≡ k.ending → GoodHandler k r o → GoodHandler n r o
@@ -119,14 +117,14 @@ ended_good k r h = kept_good k (ended (handler_ended k)) r r refl refl refl refl
 -- Messages that wait.
 
 -- what is known stays so where more ids are loaded
-known_more : (modules more : List ModuleRow) → ((id : ℕ) → is_loaded modules id ≡ true → is_loaded more id ≡ true) → (m : Message) → IsKnown modules m → IsKnown more m
+known_more : (modules more : List Loaded) → ((id : ℕ) → is_loaded modules id ≡ true → is_loaded more id ≡ true) → (m : Message) → IsKnown modules m → IsKnown more m
 known_more modules more f m h = record { receiver = f m.to h.receiver; sender = still h.sender }
   where
     still : ((m.from ≡ 0) ⊎ (m.from ≡ 255)) ⊎ (is_loaded modules m.from ≡ true) → ((m.from ≡ 0) ⊎ (m.from ≡ 255)) ⊎ (is_loaded more m.from ≡ true)
     still (inl other) = inl other
     still (inr there) = inr (f m.from there)
 
-queues_more : (modules more : List ModuleRow) (queues : Lists Message) → ((id : ℕ) → is_loaded modules id ≡ true → is_loaded more id ≡ true) → GoodQueues modules queues → GoodQueues more queues
+queues_more : (modules more : List Loaded) (queues : Lists Message) → ((id : ℕ) → is_loaded modules id ≡ true → is_loaded more id ≡ true) → GoodQueues modules queues → GoodQueues more queues
 queues_more modules more queues f h = record {
   within = h.within;
   high = each_weaker (IsKnown modules) (IsKnown more) (known_more modules more f) queues.high h.high;
@@ -134,34 +132,34 @@ queues_more modules more queues f h = record {
 }
 
 -- where a module goes out, what doesn't name it
-known_without : (modules : List ModuleRow) (row : ModuleRow) → AreDistinct modules → Contains modules row → (m : Message) → not (names row.id m) ≡ true → IsKnown modules m → IsKnown (without_domain row.domain modules) m
+known_without : (modules : List Loaded) (row : Loaded) → AreDistinct modules → Contains modules row → (m : Message) → not (names row.face.id m) ≡ true → IsKnown modules m → IsKnown (without_domain row.domain modules) m
 known_without modules row d c m kept h =
-    let parts = or_parts (m.from == row.id) (m.to == row.id) (not-true (names row.id m) kept) in
+    let parts = or_parts (m.from == row.face.id) (m.to == row.face.id) (not-true (names row.face.id m) kept) in
     record {
-      receiver = is_loaded_without modules row m.to d c (eqb-false m.to row.id parts.1) h.receiver;
-      sender = still (eqb-false m.from row.id parts.0) h.sender;
+      receiver = is_loaded_without modules row m.to d c (eqb-false m.to row.face.id parts.1) h.receiver;
+      sender = still (eqb-false m.from row.face.id parts.0) h.sender;
     }
   where
-    still : m.from ≢ row.id → ((m.from ≡ 0) ⊎ (m.from ≡ 255)) ⊎ (is_loaded modules m.from ≡ true) → ((m.from ≡ 0) ⊎ (m.from ≡ 255)) ⊎ (is_loaded (without_domain row.domain modules) m.from ≡ true)
+    still : m.from ≢ row.face.id → ((m.from ≡ 0) ⊎ (m.from ≡ 255)) ⊎ (is_loaded modules m.from ≡ true) → ((m.from ≡ 0) ⊎ (m.from ≡ 255)) ⊎ (is_loaded (without_domain row.domain modules) m.from ≡ true)
     still ne (inl other) = inl other
     still ne (inr there) = inr (is_loaded_without modules row m.from d c ne there)
 
-queues_without : (modules : List ModuleRow) (row : ModuleRow) (queues : Lists Message) → AreDistinct modules → Contains modules row → GoodQueues modules queues → GoodQueues (without_domain row.domain modules) (unnamed row.id queues)
+queues_without : (modules : List Loaded) (row : Loaded) (queues : Lists Message) → AreDistinct modules → Contains modules row → GoodQueues modules queues → GoodQueues (without_domain row.domain modules) (unnamed row.face.id queues)
 queues_without modules row queues d c h = record {
   within = (
-    omega (arith, h.within.0, filter_shorter (λ (m : Message). not (names row.id m)) queues.high),
-    omega (arith, h.within.1, filter_shorter (λ (m : Message). not (names row.id m)) queues.low),
+    omega (arith, h.within.0, filter_shorter (λ (m : Message). not (names row.face.id m)) queues.high),
+    omega (arith, h.within.1, filter_shorter (λ (m : Message). not (names row.face.id m)) queues.low),
   );
   high =
-      each_filter (IsKnown modules) (IsKnown (without_domain row.domain modules)) (λ (m : Message). not (names row.id m))
+      each_filter (IsKnown modules) (IsKnown (without_domain row.domain modules)) (λ (m : Message). not (names row.face.id m))
       (known_without modules row d c) queues.high h.high;
   low =
-      each_filter (IsKnown modules) (IsKnown (without_domain row.domain modules)) (λ (m : Message). not (names row.id m))
+      each_filter (IsKnown modules) (IsKnown (without_domain row.domain modules)) (λ (m : Message). not (names row.face.id m))
       (known_without modules row d c) queues.low h.low;
 }
 
 -- without the front
-queues_taken : (modules : List ModuleRow) (queues : Lists Message) → GoodQueues modules queues → GoodQueues modules (without_front queues)
+queues_taken : (modules : List Loaded) (queues : Lists Message) → GoodQueues modules queues → GoodQueues modules (without_front queues)
 queues_taken modules queues h = record {
   within = (
     omega (arith, h.within.0, length-drop 1 queues.high),
@@ -175,7 +173,7 @@ queues_taken modules queues h = record {
 }
 
 -- one more where there is room
-queues_posted : (modules : List ModuleRow) (high : Bool) (m : Message) (queues : Lists Message) → IsKnown modules m → nat_lt (length (list_of high queues)) queue_limit ≡ true → GoodQueues modules queues → GoodQueues modules (appended high m queues)
+queues_posted : (modules : List Loaded) (high : Bool) (m : Message) (queues : Lists Message) → IsKnown modules m → nat_lt (length (list_of high queues)) queue_limit ≡ true → GoodQueues modules queues → GoodQueues modules (appended high m queues)
 queues_posted modules true m queues known room h =
     let below = ltb-true (length queues.high) queue_limit room in
     record {
@@ -192,24 +190,24 @@ queues_posted modules false m queues known room h =
     }
 
 -- the front is known
-pub front_known : (modules : List ModuleRow) (queues : Lists Message) (m : Message) → GoodQueues modules queues → front queues ≡ Some m → IsKnown modules m
+pub front_known : (modules : List Loaded) (queues : Lists Message) (m : Message) → GoodQueues modules queues → front queues ≡ Some m → IsKnown modules m
 front_known modules queues m h e =
     each_at (IsKnown modules) (in_order queues) 0 m (each_either (IsKnown modules) queues.high queues.low h.high h.low) e
 
 -- What is found by an id in a good machine: it has that id, is loaded, and its domain is a domain.
-pub record GoodNamed (k : KernelState) (id : ℕ) (row : ModuleRow) : Type 0 where
-  pub id_of : row.id ≡ id
+pub record GoodNamed (k : KernelState) (id : ℕ) (row : Loaded) : Type 0 where
+  pub id_of : row.face.id ≡ id
   pub contained : Contains k.modules row
   pub below : row.domain < domain_count
 
-pub named_good : (k : KernelState) (r : RunnerState) (id : ℕ) (row : ModuleRow) → GoodMachine k r → module_named k.modules id ≡ Some row → GoodNamed k id row
+pub named_good : (k : KernelState) (r : RunnerState) (id : ℕ) (row : Loaded) → GoodMachine k r → module_named k.modules id ≡ Some row → GoodNamed k id row
 named_good k r id row h e =
     let n = named k.modules id row e in
     record { id_of = n.id_of; contained = n.contained; below = (each_contained (GoodModule r) k.modules row h.modules n.contained).domain }
 
 -- The module to which the first message goes: it is loaded.
 pub record Receiver (k : KernelState) (m : Message) : Type 0 where
-  pub row : ModuleRow
+  pub row : Loaded
   pub found : module_named k.modules m.to ≡ Some row
   pub good : GoodNamed k m.to row
 
@@ -224,14 +222,14 @@ lists_within k r h = h.queues.within
 
 -- A module goes out.
 
-pub purged_good : (k : KernelState) (r : RunnerState) (row : ModuleRow) → GoodMachine k r → Contains k.modules row → GoodMachine (ended (purged (handler_ended k) row.id row.domain)) (emptied r row.domain)
+pub purged_good : (k : KernelState) (r : RunnerState) (row : Loaded) → GoodMachine k r → Contains k.modules row → GoodMachine (ended (purged (handler_ended k) row.face.id row.domain)) (emptied r row.domain)
 purged_good k r row h c = record {
   processor = h.processor;
   banks = length-set r.banks row.domain [] ∙ h.banks;
   modules =
-      each_filter (GoodModule r) (GoodModule (emptied r row.domain)) (λ (m : ModuleRow). not (m.domain == row.domain))
+      each_filter (GoodModule r) (GoodModule (emptied r row.domain)) (λ (m : Loaded). not (m.domain == row.domain))
       (λ m kept g. module_kept r (emptied r row.domain) m (bank_other r row.domain m.domain [] (other_domain m.domain row.domain kept)) g) k.modules h.modules;
-  distinct = distinct_filter (λ (m : ModuleRow). not (m.domain == row.domain)) k.modules h.distinct;
+  distinct = distinct_filter (λ (m : Loaded). not (m.domain == row.domain)) k.modules h.distinct;
   blocks = AreBlocks-without_owner row.domain k.blocks h.blocks;
   owners = owned_without k.modules row.domain k.blocks h.owners;
   queues = queues_without k.modules row k.queues h.distinct c h.queues;
@@ -243,14 +241,14 @@ running_purged : (k : KernelState) (r : RunnerState) (domain : ℕ) → GoodMach
 running_purged k r domain h used =
     let f = found k.modules domain used in
     subst (λ (id : ℕ). GoodMachine (ended (purged (handler_ended k) id domain)) (emptied r domain)) (sym (found_id k.modules domain f))
-    (subst (λ (d : ℕ). GoodMachine (ended (purged (handler_ended k) f.row.id d)) (emptied r d)) f.domain_of (purged_good k r f.row h f.contained))
+    (subst (λ (d : ℕ). GoodMachine (ended (purged (handler_ended k) f.row.face.id d)) (emptied r d)) f.domain_of (purged_good k r f.row h f.contained))
 
 -- A handler's end, by the module that ends.
 
 abbrev GoodMoved : Moved → Type 0
 GoodMoved m = GoodMachine m.kernel m.runner
 
-module_closed : (o : Option ModuleRow) (k : KernelState) (r : RunnerState) (lines : List TraceLine) → ((row : ModuleRow) → o ≡ Some row → Contains k.modules row) → GoodMachine (ended (handler_ended k)) r → GoodMoved (close_module o (handler_ended k) r lines)
+module_closed : (o : Option Loaded) (k : KernelState) (r : RunnerState) (lines : List TraceLine) → ((row : Loaded) → o ≡ Some row → Contains k.modules row) → GoodMachine (ended (handler_ended k)) r → GoodMoved (close_module o (handler_ended k) r lines)
 module_closed None k r lines c h = h
 module_closed (Some row) k r lines c h = purged_good (ended (handler_ended k)) r row h (c row refl)
 
@@ -262,7 +260,7 @@ closed_good (Some id) k r lines e h =
 -- A module comes in, and its handler starts.
 
 -- each old module has a domain other than an unused one
-others_kept : (r : RunnerState) (domain : ℕ) (units : List Unit) (unit : ℕ) (modules : List ModuleRow) → in_use modules domain ≡ false → AllByRecursion (GoodModule r) modules → AllByRecursion (GoodModule (entered (placed r domain units) unit)) modules
+others_kept : (r : RunnerState) (domain : ℕ) (units : List Unit) (unit : ℕ) (modules : List Loaded) → in_use modules domain ≡ false → AllByRecursion (GoodModule r) modules → AllByRecursion (GoodModule (entered (placed r domain units) unit)) modules
 others_kept r domain units unit [] unused h = tt
 others_kept r domain units unit (m ∷ ms) unused h =
     let parts = or_parts (m.domain == domain) (in_use ms domain) unused in (
@@ -271,15 +269,14 @@ others_kept r domain units unit (m ∷ ms) unused h =
     )
 
 -- the new module's bank holds its units
-new_module : (r : RunnerState) (m : Module) (domain : ℕ) (g : Given) → length r.banks ≡ domain_count → GoodImage m → domain < domain_count → GoodModule (entered (placed r domain m.units) m.handler) (row_of m domain g)
+new_module : (r : RunnerState) (m : Module) (domain : ℕ) (g : Given) → length r.banks ≡ domain_count → GoodImage m → domain < domain_count → GoodModule (entered (placed r domain m.units) m.handler) (seated m domain g)
 new_module r m domain g banks image below =
     let same = bank_same r domain m.units (omega (arith, banks, below)) in
     record {
-      least_id = image.least_id;
-      greatest_id = image.greatest_id;
+      face = image.face;
       domain = below;
       units = subst AreProper (sym same) image.units;
-      handler = subst (λ (us : List Unit). m.handler < length us) (sym same) image.handler;
+      entered = subst (λ (us : List Unit). AreEntered us m.face m.handler m.entries) (sym same) image.entered;
     }
 
 -- a processor as a handler finds it
@@ -289,40 +286,40 @@ dispatched_good p state m memory = record {
   memory = length-append (frame_of m) (drop message_frame_bytes p.memory) ∙ omega (arith, memory, length-drop 16 p.memory);
 }
 
-pub loaded_good : (k : KernelState) (r : RunnerState) (m : Module) (domain : ℕ) (g : Given) → k.ending ≡ None → GoodMachine k r → GoodImage m → domain < domain_count → in_use k.modules domain ≡ false → is_loaded k.modules m.id ≡ false → GoodGiven k domain g → GoodMachine (loaded m domain g k r).kernel (loaded m domain g k r).runner
+pub loaded_good : (k : KernelState) (r : RunnerState) (m : Module) (domain : ℕ) (g : Given) → k.ending ≡ None → GoodMachine k r → GoodImage m → domain < domain_count → in_use k.modules domain ≡ false → is_loaded k.modules m.face.id ≡ false → GoodGiven k domain g → GoodMachine (loaded m domain g k r).kernel (loaded m domain g k r).runner
 loaded_good k r m domain g quiet h image below unused unloaded block =
     let same = bank_same r domain m.units (omega (arith, h.banks, below)) in
     record {
-      processor = dispatched_good (record k.processor { memory = g.memory }) g.address (init_to m.id) (block.memory ∙ h.processor.memory);
+      processor = dispatched_good (record k.processor { memory = g.memory }) g.address (init_to m.face.id) (block.memory ∙ h.processor.memory);
       banks = length-set r.banks domain m.units ∙ h.banks;
       modules =
-          each_push (GoodModule (entered (placed r domain m.units) m.handler)) k.modules (row_of m domain g)
+          each_push (GoodModule (entered (placed r domain m.units) m.handler)) k.modules (seated m domain g)
           (others_kept r domain m.units m.handler k.modules unused h.modules) (new_module r m domain g h.banks image below);
-      distinct = distinct_push k.modules (row_of m domain g) h.distinct (all_apart k.modules (row_of m domain g) unloaded unused);
+      distinct = distinct_push k.modules (seated m domain g) h.distinct (all_apart k.modules (seated m domain g) unloaded unused);
       blocks = block.blocks;
       owners =
-          block.owners (k.modules ++ row_of m domain g ∷ [])
-          (owned_more k.modules (k.modules ++ row_of m domain g ∷ []) (in_use_old k.modules (row_of m domain g)) k.blocks h.owners)
-          (in_use_new k.modules (row_of m domain g));
+          block.owners (k.modules ++ seated m domain g ∷ [])
+          (owned_more k.modules (k.modules ++ seated m domain g ∷ []) (in_use_old k.modules (seated m domain g)) k.blocks h.owners)
+          (in_use_new k.modules (seated m domain g));
       queues =
-          queues_more k.modules (k.modules ++ row_of m domain g ∷ []) k.queues (is_loaded_old k.modules (row_of m domain g)) h.queues;
+          queues_more k.modules (k.modules ++ seated m domain g ∷ []) k.queues (is_loaded_old k.modules (seated m domain g)) h.queues;
       handler = (
         record {
-          loaded = in_use_new k.modules (row_of m domain g);
-          unit = subst (λ (us : List Unit). m.handler < length us) (sym same) image.handler;
+          loaded = in_use_new k.modules (seated m domain g);
+          unit = subst (λ (us : List Unit). m.handler < length us) (sym same) image.entered.handler;
           floor = omega arith;
           base = omega arith;
           bound = omega arith;
           top = (refl, refl);
         },
-        record { receiver = is_loaded_new k.modules (row_of m domain g); sender = inl (inl refl) },
+        record { receiver = is_loaded_new k.modules (seated m domain g); sender = inl (inl refl) },
         rw quiet tt,
       );
     }
 
 -- A loaded module's handler starts.
 
-started : (k : KernelState) (r : RunnerState) (row : ModuleRow) (m : Message) (queues : Lists Message) (o : Option ℕ) → GoodMachine k r → Contains k.modules row → GoodQueues k.modules queues → IsKnown k.modules m → GoodEnding k (record { domain = row.domain; base = stack_top; bound = stack_top }) o → GoodMachine (record (begun (record k { queues = queues }) row m) { ending = o }) (entered r row.handler)
+started : (k : KernelState) (r : RunnerState) (row : Loaded) (m : Message) (queues : Lists Message) (o : Option ℕ) → GoodMachine k r → Contains k.modules row → GoodQueues k.modules queues → IsKnown k.modules m → GoodEnding k (record { domain = row.domain; base = stack_top; bound = stack_top }) o → GoodMachine (record (begun (record k { queues = queues }) row.domain row.state m) { ending = o }) (entered r row.handler)
 started k r row m queues o h c waiting known ending = record {
   processor = dispatched_good k.processor row.state m h.processor.memory;
   banks = h.banks;
@@ -334,43 +331,47 @@ started k r row m queues o h c waiting known ending = record {
   handler = (
     record {
       loaded = contained_in_use k.modules row c;
-      unit = (each_contained (GoodModule r) k.modules row h.modules c).handler;
+      unit = (each_contained (GoodModule r) k.modules row h.modules c).entered.handler;
       floor = omega arith;
       base = omega arith;
       bound = omega arith;
       top = (refl, refl);
     },
     known,
-    ending_kept k (record (begun (record k { queues = queues }) row m) { ending = o }) (record { domain = row.domain; base = stack_top; bound = stack_top }) o refl ending,
+    ending_kept k (record (begun (record k { queues = queues }) row.domain row.state m) { ending = o }) (record { domain = row.domain; base = stack_top; bound = stack_top }) o refl ending,
   );
 }
 
 -- A load, by the first reason for which it is refused.
 
 module _ (k : KernelState) (r : RunnerState) (quiet : k.ending ≡ None) (h : GoodMachine k r) where
-  given_moved : (o : Option Given) (m : Module) (domain image : ℕ) → GoodImage m → domain < domain_count → in_use k.modules domain ≡ false → is_loaded k.modules m.id ≡ false → given k domain m.state_size ≡ o → GoodMoved (load_given o m domain image k r)
+  given_moved : (o : Option Given) (m : Module) (domain image : ℕ) → GoodImage m → domain < domain_count → in_use k.modules domain ≡ false → is_loaded k.modules m.face.id ≡ false → given k domain m.state_size ≡ o → GoodMoved (load_given o m domain image k r)
   given_moved None m domain image good below unused unloaded e = h
   given_moved (Some g) m domain image good below unused unloaded e =
       loaded_good k r m domain g quiet h good below unused unloaded (given_good k domain m.state_size g h.blocks h.processor.memory below e)
 
-  in_moved : (o : Option ℕ) (m : Module) (image : ℕ) → GoodImage m → is_loaded k.modules m.id ≡ false → free_domain k.modules ≡ o → GoodMoved (load_in o m image k r)
+  in_moved : (o : Option ℕ) (m : Module) (image : ℕ) → GoodImage m → is_loaded k.modules m.face.id ≡ false → free_domain k.modules ≡ o → GoodMoved (load_in o m image k r)
   in_moved None m image good unloaded e = h
   in_moved (Some domain) m image good unloaded e =
       let free = free_domain_is_free k.modules domain e in
       given_moved (given k domain m.state_size) m domain image good free.0 free.1 unloaded refl
 
-  new_moved : (b : Bool) (m : Module) (image : ℕ) → GoodImage m → is_loaded k.modules m.id ≡ b → GoodMoved (load_new b m image k r)
+  new_moved : (b : Bool) (m : Module) (image : ℕ) → GoodImage m → is_loaded k.modules m.face.id ≡ b → GoodMoved (load_new b m image k r)
   new_moved true m image good e = h
   new_moved false m image good e = in_moved (free_domain k.modules) m image good e refl
 
-  image_moved : (o : Option (Option Module)) (images : List (Option Module)) (image : ℕ) → AllByRecursion IsGoodImage images → slice_get images image ≡ o → GoodMoved (load_image o image k r)
+  prepared_moved : (prep : Prep) (image : ℕ) → IsGoodImage (Some prep) → GoodMoved (load_prepared prep image k r)
+  prepared_moved (Err refusal) image good = h
+  prepared_moved (Ok m) image good = new_moved (is_loaded k.modules m.face.id) m image good refl
+
+  image_moved : (o : Option (Option Prep)) (images : List (Option Prep)) (image : ℕ) → AllByRecursion IsGoodImage images → slice_get images image ≡ o → GoodMoved (load_image o image k r)
   image_moved None images image good e = h
   image_moved (Some None) images image good e = h
-  image_moved (Some (Some m)) images image good e =
-      new_moved (is_loaded k.modules m.id) m image (each_at IsGoodImage images image (Some m) good e) refl
+  image_moved (Some (Some prep)) images image good e =
+      prepared_moved prep image (each_at IsGoodImage images image (Some prep) good e)
 
   -- an unload starts the module's last handler
-  unload_moved : (o : Option ModuleRow) (id : ℕ) → module_named k.modules id ≡ o → GoodMoved (unload_module o id k r)
+  unload_moved : (o : Option Loaded) (id : ℕ) → module_named k.modules id ≡ o → GoodMoved (unload_module o id k r)
   unload_moved None id e = h
   unload_moved (Some row) id e =
       let n = named k.modules id row e in
@@ -379,18 +380,18 @@ module _ (k : KernelState) (r : RunnerState) (quiet : k.ending ≡ None) (h : Go
       (sym n.id_of ∙ sym (id_at_row k.modules row h.distinct n.contained))
 
   -- a dispatch starts the receiver's handler
-  deliver_moved : (o : Option ModuleRow) (m : Message) → front k.queues ≡ Some m → module_named k.modules m.to ≡ o → GoodMoved (deliver o m k r)
+  deliver_moved : (o : Option Loaded) (m : Message) → front k.queues ≡ Some m → module_named k.modules m.to ≡ o → GoodMoved (deliver o m k r)
   deliver_moved None m first e = h
   deliver_moved (Some row) m first e =
       let n = named k.modules m.to row e in
-      subst (λ (o : Option ℕ). GoodMachine (record (begun (record k { queues = without_front k.queues }) row m) { ending = o }) (entered r row.handler)) (sym quiet)
+      subst (λ (o : Option ℕ). GoodMachine (record (begun (record k { queues = without_front k.queues }) row.domain row.state m) { ending = o }) (entered r row.handler)) (sym quiet)
       (started k r row m (without_front k.queues) None h n.contained (queues_taken k.modules k.queues h.queues) (front_known k.modules k.queues m h.queues first) tt)
 
   dispatch_moved : (o : Option Message) → front k.queues ≡ o → GoodMoved (dispatch o k r)
   dispatch_moved None first = h
   dispatch_moved (Some m) first = deliver_moved (module_named k.modules m.to) m first refl
 
-  came_moved : (images : List (Option Module)) (w : What) → AllByRecursion IsGoodImage images → GoodMoved (came images w k r)
+  came_moved : (images : List (Option Prep)) (w : What) → AllByRecursion IsGoodImage images → GoodMoved (came images w k r)
   came_moved images (what.Load n) good = image_moved (slice_get images n) images n good refl
   came_moved images (what.Unload id) good = unload_moved (module_named k.modules id) id refl
 
@@ -398,7 +399,7 @@ module _ (k : KernelState) (r : RunnerState) (quiet : k.ending ≡ None) (h : Go
 pub none_ends : (k : KernelState) (r : RunnerState) → GoodMachine k r → k.running ≡ None → k.ending ≡ None
 none_ends k r h out = (subst (GoodHandler k r) out h.handler).1
 
-pub came_good : (images : List (Option Module)) (w : What) (k : KernelState) (r : RunnerState) → GoodMachine k r → k.running ≡ None → AllByRecursion IsGoodImage images → GoodMachine (came images w k r).kernel (came images w k r).runner
+pub came_good : (images : List (Option Prep)) (w : What) (k : KernelState) (r : RunnerState) → GoodMachine k r → k.running ≡ None → AllByRecursion IsGoodImage images → GoodMachine (came images w k r).kernel (came images w k r).runner
 came_good images w k r h out good = came_moved k r (none_ends k r h out) h images w good
 
 pub dispatch_good : (k : KernelState) (r : RunnerState) → GoodMachine k r → k.running ≡ None → GoodMachine (dispatch (front k.queues) k r).kernel (dispatch (front k.queues) k r).runner
@@ -474,6 +475,7 @@ at_acted (Some (Store i)) run k r h e next =
     store_acted (may_store k run (store_address k.processor)) i run k r h e (unit_behind k r run (Store i) h e next refl)
 at_acted (Some (KernelCall n)) run k r h e next = call_acted k r run h e (unit_behind k r run (KernelCall n) h e next refl) (service_of n)
 at_acted (Some Return) run k r h e next = return_acted (k.processor.sp == run.base) k r h
+at_acted (Some _) run k r h e next = h
 
 running_acted : (o : Option Running) (k : KernelState) (r : RunnerState) → GoodMachine k r → k.running ≡ o → GoodActed (act_running o k r)
 running_acted None k r h e = h

@@ -5,20 +5,20 @@ use Rattle.std.specs.Option.{option_map_or}
 use Rattle.std.proofs.lemmas.Bool.{cases_Bool, cond-true, cond-false, cond_both, eqb-true, eqb-false, eq-eqb, ne_eqb, or_parts, not-true, not_from_false}
 use Rattle.std.proofs.lemmas.Option.{none-some, same_Some}
 use Rattle.std.proofs.lemmas.Map.Views.{any-filter_same}
-use Rattle.domain_model.specs.declared.module.ModuleRow.{ModuleRow}
+use Rattle.domain_model.specs.State.{Loaded}
 use Rattle.domain_model.specs.Act.{module_at, id_at, is_loaded}
 use Rattle.domain_model.specs.Turn.{in_use, module_named, without_domain}
 use Rattle.domain_model.specs.Good.{IsApart, AreDistinct}
 use Rattle.domain_model.proofs.Kept.{each_filter, each_push, each_contained, contained_nowhere, contained_first, contained_later, contained_cases, contained_filter, filter_contained, any_old, any_new, any_contained}
 
 -- the module behind a domain in use
-pub record Found (modules : List ModuleRow) (domain : ℕ) : Type 0 where
-  pub row : ModuleRow
+pub record Found (modules : List Loaded) (domain : ℕ) : Type 0 where
+  pub row : Loaded
   pub at : module_at modules domain ≡ Some row
   pub contained : Contains modules row
   pub domain_of : row.domain ≡ domain
 
-pub found : (modules : List ModuleRow) (domain : ℕ) → in_use modules domain ≡ true → Found modules domain
+pub found : (modules : List Loaded) (domain : ℕ) → in_use modules domain ≡ true → Found modules domain
 found [] domain e = absurd (cc)
 found (m ∷ ms) domain e =
     elim (cases_Bool (m.domain == domain)) [
@@ -40,23 +40,23 @@ found (m ∷ ms) domain e =
     }
 
 -- its id is the domain's
-pub found_id : (modules : List ModuleRow) (domain : ℕ) (f : Found modules domain) → id_at modules domain ≡ f.row.id
-found_id modules domain f = ap (λ (o : Option ModuleRow). option_map_or (λ (m : ModuleRow). m.id) o 0) f.at
+pub found_id : (modules : List Loaded) (domain : ℕ) (f : Found modules domain) → id_at modules domain ≡ f.row.face.id
+found_id modules domain f = ap (λ (o : Option Loaded). option_map_or (λ (m : Loaded). m.face.id) o 0) f.at
 
 -- domains and ids that are there stay where a module comes in, and its own are there
-pub in_use_old : (modules : List ModuleRow) (row : ModuleRow) (domain : ℕ) → in_use modules domain ≡ true → in_use (modules ++ row ∷ []) domain ≡ true
-in_use_old modules row domain h = any_old (λ (m : ModuleRow). m.domain == domain) modules row h
+pub in_use_old : (modules : List Loaded) (row : Loaded) (domain : ℕ) → in_use modules domain ≡ true → in_use (modules ++ row ∷ []) domain ≡ true
+in_use_old modules row domain h = any_old (λ (m : Loaded). m.domain == domain) modules row h
 
-pub in_use_new : (modules : List ModuleRow) (row : ModuleRow) → in_use (modules ++ row ∷ []) row.domain ≡ true
-in_use_new modules row = any_new (λ (m : ModuleRow). m.domain == row.domain) modules row (eq-eqb row.domain row.domain refl)
+pub in_use_new : (modules : List Loaded) (row : Loaded) → in_use (modules ++ row ∷ []) row.domain ≡ true
+in_use_new modules row = any_new (λ (m : Loaded). m.domain == row.domain) modules row (eq-eqb row.domain row.domain refl)
 
-pub is_loaded_new : (modules : List ModuleRow) (row : ModuleRow) → is_loaded (modules ++ row ∷ []) row.id ≡ true
-is_loaded_new modules row = any_new (λ (m : ModuleRow). m.id == row.id) modules row (eq-eqb row.id row.id refl)
+pub is_loaded_new : (modules : List Loaded) (row : Loaded) → is_loaded (modules ++ row ∷ []) row.face.id ≡ true
+is_loaded_new modules row = any_new (λ (m : Loaded). m.face.id == row.face.id) modules row (eq-eqb row.face.id row.face.id refl)
 
 -- another domain stays in use where one is given up
-pub in_use_without : (modules : List ModuleRow) (gone domain : ℕ) → domain ≢ gone → in_use modules domain ≡ true → in_use (without_domain gone modules) domain ≡ true
+pub in_use_without : (modules : List Loaded) (gone domain : ℕ) → domain ≢ gone → in_use modules domain ≡ true → in_use (without_domain gone modules) domain ≡ true
 in_use_without modules gone domain ne h =
-    any-filter_same (λ (m : ModuleRow). m.domain == domain) (λ (m : ModuleRow). not (m.domain == gone)) true
+    any-filter_same (λ (m : Loaded). m.domain == domain) (λ (m : Loaded). not (m.domain == gone)) true
     (λ m here. not_from_false (m.domain == gone) (ne_eqb m.domain gone (λ e. ne (sym (eqb-true m.domain domain here) ∙ e)))) modules
     ∙ h
 
@@ -64,24 +64,24 @@ in_use_without modules gone domain ne h =
 pub other_domain : (domain gone : ℕ) → not (domain == gone) ≡ true → domain ≢ gone
 other_domain domain gone h = eqb-false domain gone (not-true (domain == gone) h)
 
-pub contained_without : (modules : List ModuleRow) (gone : ℕ) (m : ModuleRow) → Contains (without_domain gone modules) m → Contains modules m × (m.domain ≢ gone)
+pub contained_without : (modules : List Loaded) (gone : ℕ) (m : Loaded) → Contains (without_domain gone modules) m → Contains modules m × (m.domain ≢ gone)
 contained_without modules gone m c =
-    let kept = contained_filter (λ (n : ModuleRow). not (n.domain == gone)) modules m c in
+    let kept = contained_filter (λ (n : Loaded). not (n.domain == gone)) modules m c in
     (kept.0, other_domain m.domain gone kept.1)
 
 -- a module with a new id and a new domain is apart from each
-pub all_apart : (modules : List ModuleRow) (row : ModuleRow) → is_loaded modules row.id ≡ false → in_use modules row.domain ≡ false → AllByRecursion (λ m. IsApart m row) modules
+pub all_apart : (modules : List Loaded) (row : Loaded) → is_loaded modules row.face.id ≡ false → in_use modules row.domain ≡ false → AllByRecursion (λ m. IsApart m row) modules
 all_apart [] row id domain = tt
 all_apart (m ∷ ms) row id domain =
-    let ids = or_parts (m.id == row.id) (is_loaded ms row.id) id in
+    let ids = or_parts (m.face.id == row.face.id) (is_loaded ms row.face.id) id in
     let domains = or_parts (m.domain == row.domain) (in_use ms row.domain) domain in
-    ((λ e. eqb-false m.id row.id ids.0 (sym e), λ e. eqb-false m.domain row.domain domains.0 (sym e)), all_apart ms row ids.1 domains.1)
+    ((λ e. eqb-false m.face.id row.face.id ids.0 (sym e), λ e. eqb-false m.domain row.domain domains.0 (sym e)), all_apart ms row ids.1 domains.1)
 
-pub distinct_push : (modules : List ModuleRow) (row : ModuleRow) → AreDistinct modules → AllByRecursion (λ m. IsApart m row) modules → AreDistinct (modules ++ row ∷ [])
+pub distinct_push : (modules : List Loaded) (row : Loaded) → AreDistinct modules → AllByRecursion (λ m. IsApart m row) modules → AreDistinct (modules ++ row ∷ [])
 distinct_push [] row d a = (tt, tt)
 distinct_push (m ∷ ms) row d a = (each_push (IsApart m) ms row d.0 a.0, distinct_push ms row d.1 a.1)
 
-pub distinct_filter : (test : ModuleRow → Bool) (modules : List ModuleRow) → AreDistinct modules → AreDistinct (filter test modules)
+pub distinct_filter : (test : Loaded → Bool) (modules : List Loaded) → AreDistinct modules → AreDistinct (filter test modules)
 distinct_filter test [] d = tt
 distinct_filter test (m ∷ ms) d =
     cond_both (test m) (m ∷ filter test ms) (filter test ms) AreDistinct
@@ -89,18 +89,18 @@ distinct_filter test (m ∷ ms) d =
     (λ lost. distinct_filter test ms d.1)
 
 -- two modules that share an id or a domain are one
-abbrev Share : ModuleRow → ModuleRow → Type 0
-Share a b = (a.id ≡ b.id) ⊎ (a.domain ≡ b.domain)
+abbrev Share : Loaded → Loaded → Type 0
+Share a b = (a.face.id ≡ b.face.id) ⊎ (a.domain ≡ b.domain)
 
-share_not : (m a b : ModuleRow) → m ≡ a → IsApart m b → Share a b → ⊥
-share_not m a b e apart (inl same) = apart.0 (sym same ∙ ap (λ (x : ModuleRow). x.id) (sym e))
-share_not m a b e apart (inr same) = apart.1 (sym same ∙ ap (λ (x : ModuleRow). x.domain) (sym e))
+share_not : (m a b : Loaded) → m ≡ a → IsApart m b → Share a b → ⊥
+share_not m a b e apart (inl same) = apart.0 (sym same ∙ ap (λ (x : Loaded). x.face.id) (sym e))
+share_not m a b e apart (inr same) = apart.1 (sym same ∙ ap (λ (x : Loaded). x.domain) (sym e))
 
-swapped : (a b : ModuleRow) → Share a b → Share b a
+swapped : (a b : Loaded) → Share a b → Share b a
 swapped a b (inl e) = inl (sym e)
 swapped a b (inr e) = inr (sym e)
 
-pub same_module : (modules : List ModuleRow) (a b : ModuleRow) → AreDistinct modules → Contains modules a → Contains modules b → Share a b → a ≡ b
+pub same_module : (modules : List Loaded) (a b : Loaded) → AreDistinct modules → Contains modules a → Contains modules b → Share a b → a ≡ b
 same_module [] a b d ca cb share = absurd (contained_nowhere a ca)
 same_module (m ∷ ms) a b d ca cb share =
     elim (contained_cases m ms a ca) [
@@ -119,81 +119,81 @@ same_module (m ∷ ms) a b d ca cb share =
 -- The module with an id.
 
 -- what is found by an id has it, and is loaded
-pub record Named (modules : List ModuleRow) (id : ℕ) (row : ModuleRow) : Type 0 where
+pub record Named (modules : List Loaded) (id : ℕ) (row : Loaded) : Type 0 where
   pub contained : Contains modules row
-  pub id_of : row.id ≡ id
+  pub id_of : row.face.id ≡ id
 
-pub named : (modules : List ModuleRow) (id : ℕ) (row : ModuleRow) → module_named modules id ≡ Some row → Named modules id row
+pub named : (modules : List Loaded) (id : ℕ) (row : Loaded) → module_named modules id ≡ Some row → Named modules id row
 named [] id row e = absurd (none-some row e)
 named (m ∷ ms) id row e =
-    elim (cases_Bool (m.id == id)) [
+    elim (cases_Bool (m.face.id == id)) [
       | inl here ↦
-          let same : m ≡ row = same_Some m row (sym (cond-true (m.id == id) (Some m) (module_named ms id) here) ∙ e) in
-          subst (Named (m ∷ ms) id) same (record { contained = contained_first ms m; id_of = eqb-true m.id id here })
+          let same : m ≡ row = same_Some m row (sym (cond-true (m.face.id == id) (Some m) (module_named ms id) here) ∙ e) in
+          subst (Named (m ∷ ms) id) same (record { contained = contained_first ms m; id_of = eqb-true m.face.id id here })
       | inr other ↦
-          let rest = named ms id row (sym (cond-false (m.id == id) (Some m) (module_named ms id) other) ∙ e) in
+          let rest = named ms id row (sym (cond-false (m.face.id == id) (Some m) (module_named ms id) other) ∙ e) in
           record { contained = contained_later m ms row rest.contained; id_of = rest.id_of }
     ]
 
 -- each loaded id is found
-pub loaded_named : (modules : List ModuleRow) (id : ℕ) → is_loaded modules id ≡ true → (row : ModuleRow) × (module_named modules id ≡ Some row)
+pub loaded_named : (modules : List Loaded) (id : ℕ) → is_loaded modules id ≡ true → (row : Loaded) × (module_named modules id ≡ Some row)
 loaded_named [] id e = absurd (cc)
 loaded_named (m ∷ ms) id e =
-    elim (cases_Bool (m.id == id)) [
-      | inl here ↦ (m, cond-true (m.id == id) (Some m) (module_named ms id) here)
+    elim (cases_Bool (m.face.id == id)) [
+      | inl here ↦ (m, cond-true (m.face.id == id) (Some m) (module_named ms id) here)
       | inr other ↦
           let rest = loaded_named ms id (rw other at e) in
-          (rest.0, cond-false (m.id == id) (Some m) (module_named ms id) other ∙ rest.1)
+          (rest.0, cond-false (m.face.id == id) (Some m) (module_named ms id) other ∙ rest.1)
     ]
 
 -- a module that is there is loaded, by its id and its domain
-pub contained_loaded : (modules : List ModuleRow) (row : ModuleRow) → Contains modules row → is_loaded modules row.id ≡ true
-contained_loaded modules row c = any_contained (λ (m : ModuleRow). m.id == row.id) modules row c (eq-eqb row.id row.id refl)
+pub contained_loaded : (modules : List Loaded) (row : Loaded) → Contains modules row → is_loaded modules row.face.id ≡ true
+contained_loaded modules row c = any_contained (λ (m : Loaded). m.face.id == row.face.id) modules row c (eq-eqb row.face.id row.face.id refl)
 
-pub contained_in_use : (modules : List ModuleRow) (row : ModuleRow) → Contains modules row → in_use modules row.domain ≡ true
-contained_in_use modules row c = any_contained (λ (m : ModuleRow). m.domain == row.domain) modules row c (eq-eqb row.domain row.domain refl)
+pub contained_in_use : (modules : List Loaded) (row : Loaded) → Contains modules row → in_use modules row.domain ≡ true
+contained_in_use modules row c = any_contained (λ (m : Loaded). m.domain == row.domain) modules row c (eq-eqb row.domain row.domain refl)
 
 -- the running domain's module has a loaded id
-pub id_at_loaded : (modules : List ModuleRow) (domain : ℕ) → in_use modules domain ≡ true → is_loaded modules (id_at modules domain) ≡ true
+pub id_at_loaded : (modules : List Loaded) (domain : ℕ) → in_use modules domain ≡ true → is_loaded modules (id_at modules domain) ≡ true
 id_at_loaded modules domain used =
     let f = found modules domain used in
     subst (λ (id : ℕ). is_loaded modules id ≡ true) (sym (found_id modules domain f)) (contained_loaded modules f.row f.contained)
 
 -- a module's domain has its id
-pub id_at_row : (modules : List ModuleRow) (row : ModuleRow) → AreDistinct modules → Contains modules row → id_at modules row.domain ≡ row.id
+pub id_at_row : (modules : List Loaded) (row : Loaded) → AreDistinct modules → Contains modules row → id_at modules row.domain ≡ row.face.id
 id_at_row modules row d c =
     let f = found modules row.domain (contained_in_use modules row c) in
-    found_id modules row.domain f ∙ ap (λ (m : ModuleRow). m.id) (same_module modules f.row row d f.contained c (inr f.domain_of))
+    found_id modules row.domain f ∙ ap (λ (m : Loaded). m.face.id) (same_module modules f.row row d f.contained c (inr f.domain_of))
 
 -- the module of that id in a loaded domain is the domain's
-pub row_of_domain : (modules : List ModuleRow) (domain : ℕ) (m : ModuleRow) → AreDistinct modules → in_use modules domain ≡ true → Contains modules m → id_at modules domain ≡ m.id → m.domain ≡ domain
+pub row_of_domain : (modules : List Loaded) (domain : ℕ) (m : Loaded) → AreDistinct modules → in_use modules domain ≡ true → Contains modules m → id_at modules domain ≡ m.face.id → m.domain ≡ domain
 row_of_domain modules domain m d used c e =
     let f = found modules domain used in
     let same = same_module modules m f.row d c f.contained (inl (sym e ∙ found_id modules domain f)) in
-    ap (λ (x : ModuleRow). x.domain) same ∙ f.domain_of
+    ap (λ (x : Loaded). x.domain) same ∙ f.domain_of
 
 -- loaded ids stay loaded where a module comes in
-pub is_loaded_old : (modules : List ModuleRow) (row : ModuleRow) (id : ℕ) → is_loaded modules id ≡ true → is_loaded (modules ++ row ∷ []) id ≡ true
-is_loaded_old modules row id h = any_old (λ (m : ModuleRow). m.id == id) modules row h
+pub is_loaded_old : (modules : List Loaded) (row : Loaded) (id : ℕ) → is_loaded modules id ≡ true → is_loaded (modules ++ row ∷ []) id ≡ true
+is_loaded_old modules row id h = any_old (λ (m : Loaded). m.face.id == id) modules row h
 
 -- another id stays loaded where a module goes out
-pub is_loaded_without : (modules : List ModuleRow) (row : ModuleRow) (id : ℕ) → AreDistinct modules → Contains modules row → id ≢ row.id → is_loaded modules id ≡ true → is_loaded (without_domain row.domain modules) id ≡ true
+pub is_loaded_without : (modules : List Loaded) (row : Loaded) (id : ℕ) → AreDistinct modules → Contains modules row → id ≢ row.face.id → is_loaded modules id ≡ true → is_loaded (without_domain row.domain modules) id ≡ true
 is_loaded_without modules row id d c ne h =
     let found = loaded_named modules id h in
     let m = named modules id found.0 found.1 in
     let apart : found.0.domain ≢ row.domain
-    = λ e. ne (sym m.id_of ∙ ap (λ (x : ModuleRow). x.id) (same_module modules found.0 row d m.contained c (inr e))) in
-    any_contained (λ (n : ModuleRow). n.id == id) (without_domain row.domain modules) found.0
-    (filter_contained (λ (n : ModuleRow). not (n.domain == row.domain)) modules found.0 m.contained (not_from_false (found.0.domain == row.domain) (ne_eqb found.0.domain row.domain apart)))
-    (eq-eqb found.0.id id m.id_of)
+    = λ e. ne (sym m.id_of ∙ ap (λ (x : Loaded). x.face.id) (same_module modules found.0 row d m.contained c (inr e))) in
+    any_contained (λ (n : Loaded). n.face.id == id) (without_domain row.domain modules) found.0
+    (filter_contained (λ (n : Loaded). not (n.domain == row.domain)) modules found.0 m.contained (not_from_false (found.0.domain == row.domain) (ne_eqb found.0.domain row.domain apart)))
+    (eq-eqb found.0.face.id id m.id_of)
 
 -- the id of a module that went out is found no more
-pub named_without : (modules : List ModuleRow) (row : ModuleRow) → AreDistinct modules → Contains modules row → module_named (without_domain row.domain modules) row.id ≡ None
-named_without modules row d c = none_named (module_named (without_domain row.domain modules) row.id) refl
+pub named_without : (modules : List Loaded) (row : Loaded) → AreDistinct modules → Contains modules row → module_named (without_domain row.domain modules) row.face.id ≡ None
+named_without modules row d c = none_named (module_named (without_domain row.domain modules) row.face.id) refl
   where
-    none_named : (o : Option ModuleRow) → module_named (without_domain row.domain modules) row.id ≡ o → o ≡ None
+    none_named : (o : Option Loaded) → module_named (without_domain row.domain modules) row.face.id ≡ o → o ≡ None
     none_named None e = refl
     none_named (Some m) e =
-        let n = named (without_domain row.domain modules) row.id m e in
+        let n = named (without_domain row.domain modules) row.face.id m e in
         let kept = contained_without modules row.domain m n.contained in
-        absurd (kept.1 (ap (λ (x : ModuleRow). x.domain) (same_module modules m row d kept.0 c (inl n.id_of))))
+        absurd (kept.1 (ap (λ (x : Loaded). x.domain) (same_module modules m row d kept.0 c (inl n.id_of))))

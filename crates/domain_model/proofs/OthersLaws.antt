@@ -6,7 +6,6 @@ use Rattle.std.proofs.lemmas.Bool.{and_right, lt-leb, cases_eq}
 use Rattle.mote_base.specs.Messages.{Lists, front}
 use Rattle.mote_layout.specs.Memory.{ram_start, kernel_bytes_start, kernel_bytes_end}
 use Rattle.mote_layout.specs.Blocks.{without_owner}
-use Rattle.domain_model.specs.declared.module.ModuleRow.{ModuleRow}
 use Rattle.domain_model.specs.declared.event.Choice.{Choice}
 use Rattle.domain_model.specs.declared.event.Choice.TheVariants.{Stays, Comes, Dispatches, Jumps, Idles, Budgets, Watches, Acts}
 use Rattle.domain_model.specs.declared.fault.UnitEnd.{UnitEnd}
@@ -14,7 +13,7 @@ use Rattle.domain_model.specs.declared.fault.UnitEnd.TheVariants.{On, Over, Faul
 use Rattle.domain_model.specs.declared.handler.Running.{Running}
 use Rattle.domain_model.specs.declared.line.TraceLine.{TraceLine}
 use Rattle.domain_model.specs.declared.line.TraceLine.TheVariants as line
-use Rattle.domain_model.specs.State.{Message, KernelState, RunnerState, State}
+use Rattle.domain_model.specs.State.{Loaded, Message, KernelState, RunnerState, State}
 use Rattle.domain_model.specs.Act.{Acted, act}
 use Rattle.domain_model.specs.Free.{UnitStep, with_memory, ends_handler, is_kernel_byte}
 use Rattle.domain_model.specs.Turn.{settled, watchdog, at_clock, without_domain, unnamed, choice, made, May, Leaves, Turn}
@@ -60,27 +59,27 @@ ends_where On run k r lines quiet time id c = absurd (quiet time id c)
 ends_where Over run k r lines quiet time id c = refl
 ends_where (Fault note) run k r lines quiet time id c = refl
 
-settled_keeps : (k : KernelState) (r : RunnerState) (got : Acted) (run : Running) (now : ℕ) → GoodMachine k r → k.running ≡ Some run → UnitStep k r got → (time : ℕ) (m : ModuleRow) → Contains (settled got.ending run got.kernel got.runner got.lines).lines (line.Unload time m.id) → Contains k.modules m → KeepsTheRest k m.id m.domain (at_clock (settled got.ending run got.kernel got.runner got.lines).kernel now)
+settled_keeps : (k : KernelState) (r : RunnerState) (got : Acted) (run : Running) (now : ℕ) → GoodMachine k r → k.running ≡ Some run → UnitStep k r got → (time : ℕ) (m : Loaded) → Contains (settled got.ending run got.kernel got.runner got.lines).lines (line.Unload time m.face.id) → Contains k.modules m → KeepsTheRest k m.face.id m.domain (at_clock (settled got.ending run got.kernel got.runner got.lines).kernel now)
 settled_keeps k r got run now h i step time m c cm =
     let alone = step_changes_alone k r got step in
     let quiet = step_quiet k r got step in
     let running : got.kernel.running ≡ Some run = ap (λ (n : KernelState). n.running) alone ∙ i in
     let there : Contains got.kernel.modules m = subst (λ (n : KernelState). Contains n.modules m) (sym alone) cm in
-    let ends = ends_where got.ending run got.kernel got.runner got.lines quiet time m.id c in
+    let ends = ends_where got.ending run got.kernel got.runner got.lines quiet time m.face.id c in
     let u = settled_unloads got.kernel got.runner run (step_good k r got step h) running got.ending got.lines quiet time m c there in
-    subst (λ (x : KernelState). KeepsTheRest k m.id m.domain (at_clock x now)) (sym u.kernel)
-    (end_keeps k r got m.id m.domain now h step (sym (ap ends_handler step.ending) ∙ ends))
+    subst (λ (x : KernelState). KeepsTheRest k m.face.id m.domain (at_clock x now)) (sym u.kernel)
+    (end_keeps k r got m.face.id m.domain now h step (sym (ap ends_handler step.ending) ∙ ends))
 
-turn_keeps : (c : Choice) (s t : State) (got : Acted) → Good s → Facts c s → May c s got → Leaves c (made c s got).state t → (time : ℕ) (m : ModuleRow) → Contains (made c s got).lines (line.Unload time m.id) → Contains s.kernel.modules m → KeepsTheRest s.kernel m.id m.domain t.kernel
-turn_keeps Stays s t got g facts may to time m c cm = absurd (quiet_by [] refl time m.id c)
-turn_keeps (Comes e) s t got g facts may to time m c cm = absurd (came_quiet s.images e.what s.kernel s.runner time m.id c)
-turn_keeps Dispatches s t got g facts may to time m c cm = absurd (dispatch_quiet (front s.kernel.queues) s.kernel s.runner time m.id c)
-turn_keeps (Jumps now) s t got g facts may to time m c cm = absurd (quiet_by [] refl time m.id c)
-turn_keeps Idles s t got g facts may to time m c cm = absurd (quiet_by (line.EndIdle s.kernel.clock ∷ []) refl time m.id c)
-turn_keeps Budgets s t got g facts may to time m c cm = absurd (quiet_by (line.EndBudget s.kernel.clock ∷ []) refl time m.id c)
+turn_keeps : (c : Choice) (s t : State) (got : Acted) → Good s → Facts c s → May c s got → Leaves c (made c s got).state t → (time : ℕ) (m : Loaded) → Contains (made c s got).lines (line.Unload time m.face.id) → Contains s.kernel.modules m → KeepsTheRest s.kernel m.face.id m.domain t.kernel
+turn_keeps Stays s t got g facts may to time m c cm = absurd (quiet_by [] refl time m.face.id c)
+turn_keeps (Comes e) s t got g facts may to time m c cm = absurd (came_quiet s.images e.what s.kernel s.runner time m.face.id c)
+turn_keeps Dispatches s t got g facts may to time m c cm = absurd (dispatch_quiet (front s.kernel.queues) s.kernel s.runner time m.face.id c)
+turn_keeps (Jumps now) s t got g facts may to time m c cm = absurd (quiet_by [] refl time m.face.id c)
+turn_keeps Idles s t got g facts may to time m c cm = absurd (quiet_by (line.EndIdle s.kernel.clock ∷ []) refl time m.face.id c)
+turn_keeps Budgets s t got g facts may to time m c cm = absurd (quiet_by (line.EndBudget s.kernel.clock ∷ []) refl time m.face.id c)
 turn_keeps (Watches run) s t got g facts may to time m c cm =
     let u = faulted_unloads s.kernel s.runner run g.machine facts.running (watchdog s) [] (quiet_by [] refl) time m c cm in
-    let same : t.kernel ≡ with_memory (gone s.kernel m.id m.domain) t.kernel.processor.memory
+    let same : t.kernel ≡ with_memory (gone s.kernel m.face.id m.domain) t.kernel.processor.memory
     = to.kernel.rest ∙ ap (λ (n : KernelState). with_memory n t.kernel.processor.memory) u.kernel in
     let bytes : (i : ℕ) → is_kernel_byte (i + ram_start) ≡ false → slice_index t.kernel.processor.memory i ≡ slice_index s.kernel.processor.memory i
     = λ i free. to.kernel.memory.same i free ∙ ap (λ (n : KernelState). slice_index n.processor.memory i) u.kernel in
@@ -92,10 +91,10 @@ turn_keeps (Watches run) s t got g facts may to time m c cm =
           bytes i (heap_byte (i + ram_start) (owned_in_heap s.kernel.blocks other (i + ram_start) g.machine.blocks owned));
     }
 turn_keeps (Acts run) s t got g facts may to time m c cm =
-    subst (λ (x : State). KeepsTheRest s.kernel m.id m.domain x.kernel) (sym to)
+    subst (λ (x : State). KeepsTheRest s.kernel m.face.id m.domain x.kernel) (sym to)
     (settled_keeps s.kernel s.runner got run _ g.machine facts.running may time m c cm)
 
 pub turn_unloads_alone : (s t : State) (lines : List TraceLine) → Good s → Turn s t lines → UnloadsAlone s t lines
 turn_unloads_alone s t lines g turn time m c cm =
     turn_keeps (choice s) s t turn.got g (choice_facts s) turn.may turn.to time m
-    (subst (λ (xs : List TraceLine). Contains xs (line.Unload time m.id)) turn.tells c) cm
+    (subst (λ (xs : List TraceLine). Contains xs (line.Unload time m.face.id)) turn.tells c) cm

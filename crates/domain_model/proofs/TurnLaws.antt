@@ -1,7 +1,6 @@
 -- Every turn keeps a state good, and from each good state that is live there is a turn.
-use Rattle.std.proofs.Common.{◌≡◌, ℕ, ◌^◌, ◌<◌, List, [], length, Bool, true, false, refl, sym, ap, ◌∙◌, subst, arith, Option, Some, None, slice_get}
+use Rattle.std.proofs.Common.{Ok, Err, ◌≡◌, ℕ, ◌^◌, ◌<◌, List, [], length, Bool, true, false, refl, sym, ap, ◌∙◌, subst, arith, Option, Some, None, slice_get}
 use Rattle.mote_base.specs.Messages.{front}
-use Rattle.domain_model.specs.declared.module.ModuleRow.{ModuleRow}
 use Rattle.domain_model.specs.declared.event.Event.{Event}
 use Rattle.domain_model.specs.declared.event.What.{What}
 use Rattle.domain_model.specs.declared.event.What.TheVariants as what
@@ -11,11 +10,11 @@ use Rattle.domain_model.specs.declared.fault.UnitEnd.{UnitEnd}
 use Rattle.domain_model.specs.declared.fault.UnitEnd.TheVariants.{Fault}
 use Rattle.domain_model.specs.declared.handler.Running.{Running}
 use Rattle.domain_model.specs.declared.line.TraceLine.{TraceLine}
-use Rattle.domain_model.specs.Image.{Module}
-use Rattle.domain_model.specs.State.{Message, KernelState, RunnerState, State}
+use Rattle.domain_model.specs.Prepared.{Module, Prep}
+use Rattle.domain_model.specs.State.{Loaded, Message, KernelState, RunnerState, State}
 use Rattle.domain_model.specs.Act.{Acted, act, is_loaded}
 use Rattle.domain_model.specs.Free.{SameBut, SameKernel, SameState, UnitStep, with_memory, is_kernel_byte, unit_free}
-use Rattle.domain_model.specs.Turn.{Given, given, free_domain, module_named, came, unload_module, deliver, dispatch, watchdog, load_image, load_new, load_in, load_given, settled, choice, made, May, Leaves, Turn}
+use Rattle.domain_model.specs.Turn.{Given, given, free_domain, module_named, came, unload_module, deliver, dispatch, watchdog, load_image, load_prepared, load_new, load_in, load_given, settled, choice, made, May, Leaves, Turn}
 use Rattle.domain_model.specs.Good.{Good}
 use Rattle.domain_model.specs.Facts.{Facts}
 use Rattle.domain_model.proofs.Kept.{each_drop, each_at}
@@ -38,20 +37,24 @@ new_clock : (b : Bool) (m : Module) (image : ℕ) (k : KernelState) (r : RunnerS
 new_clock true m image k r = refl
 new_clock false m image k r = in_clock (free_domain k.modules) m image k r
 
-image_clock : (o : Option (Option Module)) (image : ℕ) (k : KernelState) (r : RunnerState) → (load_image o image k r).kernel.clock ≡ k.clock
+prepared_clock : (prep : Prep) (image : ℕ) (k : KernelState) (r : RunnerState) → (load_prepared prep image k r).kernel.clock ≡ k.clock
+prepared_clock (Err refusal) image k r = refl
+prepared_clock (Ok m) image k r = new_clock (is_loaded k.modules m.face.id) m image k r
+
+image_clock : (o : Option (Option Prep)) (image : ℕ) (k : KernelState) (r : RunnerState) → (load_image o image k r).kernel.clock ≡ k.clock
 image_clock None image k r = refl
 image_clock (Some None) image k r = refl
-image_clock (Some (Some m)) image k r = new_clock (is_loaded k.modules m.id) m image k r
+image_clock (Some (Some prep)) image k r = prepared_clock prep image k r
 
-unload_clock : (o : Option ModuleRow) (id : ℕ) (k : KernelState) (r : RunnerState) → (unload_module o id k r).kernel.clock ≡ k.clock
+unload_clock : (o : Option Loaded) (id : ℕ) (k : KernelState) (r : RunnerState) → (unload_module o id k r).kernel.clock ≡ k.clock
 unload_clock None id k r = refl
 unload_clock (Some row) id k r = refl
 
-pub came_clock : (images : List (Option Module)) (w : What) (k : KernelState) (r : RunnerState) → (came images w k r).kernel.clock ≡ k.clock
+pub came_clock : (images : List (Option Prep)) (w : What) (k : KernelState) (r : RunnerState) → (came images w k r).kernel.clock ≡ k.clock
 came_clock images (what.Load n) k r = image_clock (slice_get images n) n k r
 came_clock images (what.Unload id) k r = unload_clock (module_named k.modules id) id k r
 
-deliver_clock : (o : Option ModuleRow) (m : Message) (k : KernelState) (r : RunnerState) → (deliver o m k r).kernel.clock ≡ k.clock
+deliver_clock : (o : Option Loaded) (m : Message) (k : KernelState) (r : RunnerState) → (deliver o m k r).kernel.clock ≡ k.clock
 deliver_clock None m k r = refl
 deliver_clock (Some row) m k r = refl
 

@@ -6,9 +6,8 @@ use Rattle.avr_isa.specs.declared.instruction.Instr.{Instr}
 use Rattle.avr_isa.specs.declared.instruction.Instr.TheVariants.{Ldi, Mov, StX}
 use Rattle.mote_base.specs.Messages.{list_of, appended, queue_limit}
 use Rattle.mote_layout.specs.Store.{may_store as permits}
-use Rattle.domain_model.specs.declared.unit.Unit.{Unit}
-use Rattle.domain_model.specs.declared.unit.Unit.TheVariants.{Plain, Store, KernelCall, Return}
-use Rattle.domain_model.specs.declared.module.ModuleRow.{ModuleRow}
+use Rattle.unit_code.specs.declared.unit.Unit.{Unit}
+use Rattle.unit_code.specs.declared.unit.Unit.TheVariants.{Plain, Store, KernelCall, Return}
 use Rattle.domain_model.specs.declared.handler.Running.{Running}
 use Rattle.domain_model.specs.declared.fault.Rule.{Rule}
 use Rattle.domain_model.specs.declared.fault.Rule.TheVariants as rule
@@ -16,7 +15,7 @@ use Rattle.domain_model.specs.declared.fault.UnitEnd.{UnitEnd}
 use Rattle.domain_model.specs.declared.fault.UnitEnd.TheVariants.{On, Over, Fault}
 use Rattle.domain_model.specs.declared.line.TraceLine.{TraceLine}
 use Rattle.domain_model.specs.declared.line.TraceLine.TheVariants as line
-use Rattle.domain_model.specs.State.{Processor, Message, KernelState, RunnerState, register, with_register, pair, with_pair, with_byte, with_processor}
+use Rattle.domain_model.specs.State.{Processor, Message, Loaded, KernelState, RunnerState, register, with_register, pair, with_pair, with_byte, with_processor}
 use Rattle.domain_model.specs.Units.{Service, PostShort, Say, MyId, service_of}
 
 -- Kernel and runner after a unit, the lines that it wrote, and how it ended.
@@ -40,16 +39,16 @@ abbrev pub returns : KernelState → RunnerState → Acted
 returns k r = record { kernel = k; runner = r; lines = []; ending = Over }
 
 -- The module that is loaded in a domain.
-abbrev pub module_at : List ModuleRow → ℕ → Option ModuleRow
+abbrev pub module_at : List Loaded → ℕ → Option Loaded
 module_at modules domain = find (λ m. m.domain == domain) modules
 
 -- its id; 0 where there is none
-abbrev pub id_at : List ModuleRow → ℕ → ℕ
-id_at modules domain = option_map_or (λ (m : ModuleRow). m.id) (module_at modules domain) 0
+abbrev pub id_at : List Loaded → ℕ → ℕ
+id_at modules domain = option_map_or (λ (m : Loaded). m.face.id) (module_at modules domain) 0
 
 -- A module with that id is loaded.
-abbrev pub is_loaded : List ModuleRow → ℕ → Bool
-is_loaded modules id = list_any (λ m. m.id == id) modules
+abbrev pub is_loaded : List Loaded → ℕ → Bool
+is_loaded modules id = list_any (λ m. m.face.id == id) modules
 
 -- Where the running domain may store: in its own blocks, and on its own part of the stack.
 abbrev pub may_store : KernelState → Running → ℕ → Bool
@@ -120,11 +119,13 @@ act_call (Some Say) run k r =
 act_call (Some MyId) run k r = goes_on (answered k (id_at k.modules run.domain)) r []
 act_call None run k r = goes_on k r []
 
+-- A unit by its kind. No run has one that is not built: it would end the handler and change nothing.
 abbrev pub act_unit : Unit → Running → KernelState → RunnerState → Acted
 act_unit (Plain i) run k r = goes_on (with_processor k (plain_effect i k.processor)) r []
 act_unit (Store i) run k r = act_store (may_store k run (store_address k.processor)) i k r
 act_unit (KernelCall n) run k r = act_call (service_of n) run k r
 act_unit Return run k r = act_return (k.processor.sp == run.base) k r
+act_unit _ run k r = returns k r
 
 -- the units of a domain's module
 abbrev pub bank : RunnerState → ℕ → List Unit

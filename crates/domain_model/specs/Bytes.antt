@@ -1,5 +1,5 @@
 -- Words as two bytes.
-use Rattle.std.specs.Prelude.{ℕ, ◌+◌, ◌*◌, ◌/◌, ◌%◌, List, slice_index}
+use Rattle.std.specs.Prelude.{ℕ, ◌/◌, ◌%◌}
 
 -- the low and the high byte of a word
 abbrev pub low : ℕ → ℕ
@@ -7,7 +7,3 @@ low w = w % 256
 
 abbrev pub high : ℕ → ℕ
 high w = w / 256
-
--- the word at a place, low byte first
-abbrev pub word_at : List ℕ → ℕ → ℕ
-word_at bytes i = slice_index bytes i + 256 * slice_index bytes (i + 1)

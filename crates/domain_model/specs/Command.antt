@@ -1,9 +1,10 @@
 -- The command that the words are, and the files that it takes.
-use Rattle.std.specs.Prelude.{ℕ, ◌&&◌, ◌==◌, nat_lt, nat_le, if◌then◌else◌, Bool, List, [], ◌∷◌, length, slice_index, codes, Option, Some, None}
+use Rattle.std.specs.Prelude.{ℕ, ◌+◌, ◌&&◌, ◌==◌, nat_lt, nat_le, if◌then◌else◌, Bool, List, [], ◌∷◌, length, slice_index, codes, Option, Some, None}
 use Rattle.std.specs.List.{list_any}
 use Rattle.std.specs.Str.{bytes_eq}
+use Rattle.mote_layout.specs.Limits.{image_limit, images_limit, script_limit}
 use Rattle.domain_model.specs.declared.request.Kind.{Kind}
-use Rattle.domain_model.specs.declared.request.Kind.TheVariants.{Run}
+use Rattle.domain_model.specs.declared.request.Kind.TheVariants.{Run, Listing}
 
 -- What is to be done, and the names of the files that it takes, in their order.
 pub record Command : Type 0 where
@@ -16,11 +17,12 @@ is_option word = nat_lt 1 (length word) && (slice_index word 0 == 45)
 
 -- the command of that name
 abbrev pub kind_of : List ℕ → Option Kind
-kind_of verb = if bytes_eq verb (codes "run") then Some Run else None
+kind_of verb = if bytes_eq verb (codes "run") then Some Run else (if bytes_eq verb (codes "list") then Some Listing else None)
 
--- whether it takes so many files: `run` a script and 1 to 64 images
+-- whether it takes so many files: `run` a script and 1 to 64 images, `list` an image
 abbrev pub takes : Kind → ℕ → Bool
-takes Run count = nat_le 2 count && nat_le count 65
+takes Run count = nat_le 2 count && nat_le count (1 + images_limit)
+takes Listing count = count == 1
 
 abbrev pub with_files : Option Kind → List (List ℕ) → Option Command
 with_files None files = None
@@ -35,4 +37,5 @@ command_of (verb ∷ words) = if list_any is_option words then None else with_fi
 -- The most bytes of the command's file with that number, counted from 0: 1,048,576 of a script and 65,536
 -- of an image.
 abbrev pub limit_of : Kind → ℕ → ℕ
-limit_of Run number = if number == 0 then 1048576 else 65536
+limit_of Run number = if number == 0 then script_limit else image_limit
+limit_of Listing number = image_limit

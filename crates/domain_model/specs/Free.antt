@@ -2,8 +2,8 @@
 -- at every unit the dead bytes of the stack, at every entry of the kernel the kernel's own bytes.
 use Rattle.std.specs.Prelude.{◌≡◌, ℕ, ◌+◌, ◌&&◌, ◌||◌, nat_le, List, length, slice_index, Bool, true, false, Option, Some, None}
 use Rattle.mote_layout.specs.Memory.{ram_start, red_zone_start, kernel_bytes_start, kernel_bytes_end}
-use Rattle.domain_model.specs.declared.unit.Unit.{Unit}
-use Rattle.domain_model.specs.declared.unit.Unit.TheVariants.{Plain, Store, KernelCall, Return}
+use Rattle.unit_code.specs.declared.unit.Unit.{Unit}
+use Rattle.unit_code.specs.declared.unit.Unit.TheVariants.{KernelCall, SlotCall, SlotIndirect}
 use Rattle.domain_model.specs.declared.handler.Running.{Running}
 use Rattle.domain_model.specs.declared.fault.UnitEnd.{UnitEnd}
 use Rattle.domain_model.specs.declared.fault.UnitEnd.TheVariants.{On, Over, Fault}
@@ -36,13 +36,13 @@ pub record SameState (free : ℕ → Bool) (want got : State) : Type 0 where
   pub kernel : SameKernel free want.kernel got.kernel
   pub rest : got ≡ record want { kernel = got.kernel }
 
--- A unit enters the kernel where it is a kernel call, where it faults, and where it ends the handler.
+-- A unit enters the kernel where it is a kernel call or a call of a slot, where it faults, and where it ends the handler.
 abbrev pub calls_kernel : Option Unit → Bool
 calls_kernel None = true
-calls_kernel (Some (Plain i)) = false
-calls_kernel (Some (Store i)) = false
 calls_kernel (Some (KernelCall n)) = true
-calls_kernel (Some Return) = false
+calls_kernel (Some (SlotCall i)) = true
+calls_kernel (Some SlotIndirect) = true
+calls_kernel (Some _) = false
 
 abbrev pub ends_handler : UnitEnd → Bool
 ends_handler On = false

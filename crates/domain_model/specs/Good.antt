@@ -1,17 +1,19 @@
 -- What every turn keeps.
-use Rattle.std.specs.Prelude.{◌⊎◌, ℕ, ◌≡◌, ◌≢◌, ◌+◌, ◌^◌, ◌<◌, ◌≤◌, List, [], ◌∷◌, length, Option, Some, None, true, ⊤}
+use Rattle.std.specs.Prelude.{◌⊎◌, ℕ, ◌≡◌, ◌≢◌, ◌+◌, ◌^◌, ◌<◌, ◌≤◌, List, [], ◌∷◌, length, Option, Some, None, Ok, Err, true, ⊤}
 use Rattle.std.specs.List.{AllByRecursion}
 use Rattle.mote_base.specs.Messages.{Lists, AreWithinLimit}
 use Rattle.mote_layout.specs.Memory.{ram_bytes, domain_count, stack_top, floor}
 use Rattle.mote_layout.specs.Limits.{unit_limit, handler_limit}
 use Rattle.mote_layout.specs.Blocks.{AreBlocks}
 use Rattle.mote_layout.specs.declared.segment.Segment.{Segment}
-use Rattle.domain_model.specs.declared.module.ModuleRow.{ModuleRow}
+use Rattle.unit_code.specs.declared.unit.Unit.{Unit}
+use Rattle.module_image.specs.declared.face.Face.{Face}
+use Rattle.module_image.specs.Contents.{FaceRules}
 use Rattle.domain_model.specs.declared.handler.Running.{Running}
 use Rattle.domain_model.specs.declared.event.Event.{Event}
-use Rattle.domain_model.specs.Image.{Module}
+use Rattle.domain_model.specs.Prepared.{Module, Prep}
 use Rattle.domain_model.specs.Units.{AreProper}
-use Rattle.domain_model.specs.State.{Processor, Message, KernelState, RunnerState, State}
+use Rattle.domain_model.specs.State.{Processor, Message, Loaded, KernelState, RunnerState, State}
 use Rattle.domain_model.specs.Act.{bank, id_at, is_loaded}
 use Rattle.domain_model.specs.Turn.{in_use}
 
@@ -20,24 +22,30 @@ pub record GoodProcessor (p : Processor) : Type 0 where
   pub registers : length p.registers ≡ 32
   pub memory : length p.memory ≡ ram_bytes
 
--- A module's id is 1 to 254, its domain a domain, and its handler one of the units in its bank.
-pub record GoodModule (r : RunnerState) (m : ModuleRow) : Type 0 where
-  pub least_id : 1 ≤ m.id
-  pub greatest_id : m.id ≤ 254
+-- The unit at which a dispatch starts is one of these, and so is that of each function that the face provides.
+pub record AreEntered (units : List Unit) (face : Face) (start : ℕ) (starts : List ℕ) : Type 0 where
+  pub handler : start < length units
+  pub entries : AllByRecursion (λ unit. unit < length units) starts
+  pub provided : length starts ≡ length face.provided.items
+
+-- A module's face keeps the rules of its fields (its id is 1 to 254), its domain is a domain, and the units in its bank
+-- are proper and have its handler and its functions.
+pub record GoodModule (r : RunnerState) (m : Loaded) : Type 0 where
+  pub face : FaceRules m.face
   pub domain : m.domain < domain_count
   pub units : AreProper (bank r m.domain)
-  pub handler : m.handler < length (bank r m.domain)
+  pub entered : AreEntered (bank r m.domain) m.face m.handler m.entries
 
 -- No module behind this one has its id or its domain.
-abbrev pub IsApart : ModuleRow → ModuleRow → Type 0
-IsApart m n = (n.id ≢ m.id) × (n.domain ≢ m.domain)
+abbrev pub IsApart : Loaded → Loaded → Type 0
+IsApart m n = (n.face.id ≢ m.face.id) × (n.domain ≢ m.domain)
 
-abbrev pub AreDistinct : List ModuleRow → Type 0
+abbrev pub AreDistinct : List Loaded → Type 0
 AreDistinct [] = ⊤
 AreDistinct (m ∷ ms) = AllByRecursion (IsApart m) ms × AreDistinct ms
 
 -- Each block's owner is the domain of a loaded module. (There are no payloads yet, so the kernel has none.)
-abbrev pub AreOwned : List ModuleRow → List Segment → Type 0
+abbrev pub AreOwned : List Loaded → List Segment → Type 0
 AreOwned modules blocks = AllByRecursion (λ b. in_use modules b.owner ≡ true) blocks
 
 -- In a handler a loaded domain runs, its next unit is one of its units, and the stack pointer is at its base,
@@ -51,11 +59,11 @@ pub record GoodRunning (k : KernelState) (r : RunnerState) (run : Running) : Typ
   pub top : (run.base ≡ stack_top) × (run.bound ≡ stack_top)
 
 -- A message's receiver is loaded, and its sender is the kernel, the radio (255) or loaded.
-pub record IsKnown (modules : List ModuleRow) (m : Message) : Type 0 where
+pub record IsKnown (modules : List Loaded) (m : Message) : Type 0 where
   pub receiver : is_loaded modules m.to ≡ true
   pub sender : ((m.from ≡ 0) ⊎ (m.from ≡ 255)) ⊎ (is_loaded modules m.from ≡ true)
 
-abbrev pub GoodHand : List ModuleRow → Option Message → Type 0
+abbrev pub GoodHand : List Loaded → Option Message → Type 0
 GoodHand modules None = ⊥
 GoodHand modules (Some m) = IsKnown modules m
 
@@ -70,7 +78,7 @@ GoodHandler k r None = (k.hand ≡ None) × (k.ending ≡ None)
 GoodHandler k r (Some run) = GoodRunning k r run × GoodHand k.modules k.hand × GoodEnding k run k.ending
 
 -- Each list has at most sixteen messages, each between modules that are loaded.
-pub record GoodQueues (modules : List ModuleRow) (queues : Lists Message) : Type 0 where
+pub record GoodQueues (modules : List Loaded) (queues : Lists Message) : Type 0 where
   pub within : AreWithinLimit queues
   pub high : AllByRecursion (IsKnown modules) queues.high
   pub low : AllByRecursion (IsKnown modules) queues.low
@@ -88,14 +96,14 @@ pub record GoodMachine (k : KernelState) (r : RunnerState) : Type 0 where
 
 -- A module that can be loaded.
 pub record GoodImage (m : Module) : Type 0 where
-  pub least_id : 1 ≤ m.id
-  pub greatest_id : m.id ≤ 254
+  pub face : FaceRules m.face
   pub units : AreProper m.units
-  pub handler : m.handler < length m.units
+  pub entered : AreEntered m.units m.face m.handler m.entries
 
-abbrev pub IsGoodImage : Option Module → Type 0
+abbrev pub IsGoodImage : Option Prep → Type 0
 IsGoodImage None = ⊤
-IsGoodImage (Some m) = GoodImage m
+IsGoodImage (Some (Err refusal)) = ⊤
+IsGoodImage (Some (Ok m)) = GoodImage m
 
 -- the times of events that are still to come
 abbrev pub AreTimes : List Event → Type 0

@@ -1,17 +1,17 @@
 -- What holds of every turn of every run.
 use Rattle.std.specs.Prelude.{◌≡◌, ◌≢◌, ◌⊎◌, ℕ, ◌+◌, ◌≤◌, List, Option, Some, None, Contains, true, false, slice_index, ⊤}
 use Rattle.mote_base.specs.Messages.{in_order}
+use Rattle.module_image.specs.Links.{bound_slot}
 use Rattle.mote_layout.specs.Memory.{ram_start, red_zone_start, kernel_bytes_start, kernel_bytes_end, kernel}
 use Rattle.mote_layout.specs.Blocks.{without_owner, owns}
 use Rattle.mote_layout.specs.declared.segment.Segment.{Segment}
-use Rattle.domain_model.specs.declared.module.ModuleRow.{ModuleRow}
 use Rattle.domain_model.specs.declared.handler.Running.{Running}
 use Rattle.domain_model.specs.declared.event.Choice.TheVariants.{Acts}
 use Rattle.domain_model.specs.declared.fault.FaultNote.{FaultNote}
 use Rattle.domain_model.specs.declared.fault.UnitEnd.TheVariants.{Fault}
 use Rattle.domain_model.specs.declared.line.TraceLine.{TraceLine}
 use Rattle.domain_model.specs.declared.line.TraceLine.TheVariants as line
-use Rattle.domain_model.specs.State.{Message, KernelState, State}
+use Rattle.domain_model.specs.State.{Message, Loaded, KernelState, State, seats}
 use Rattle.domain_model.specs.Act.{act}
 use Rattle.domain_model.specs.Free.{enters_kernel}
 use Rattle.domain_model.specs.Turn.{choice, unnamed, without_domain, Turn, RunBy, RunFrom}
@@ -48,13 +48,13 @@ pub record Confined (s t : State) : Type 0 where
 
 -- A handler starts: a module that is loaded runs from its handler's unit, with a message to it in hand.
 pub record Dispatched (t : State) (run : Running) : Type 0 where
-  pub row : ModuleRow
+  pub receiver : Loaded
   pub message : Message
-  pub is_loaded : Contains t.kernel.modules row
-  pub domain : run.domain ≡ row.domain
-  pub unit : t.runner.unit ≡ row.handler
+  pub is_loaded : Contains t.kernel.modules receiver
+  pub domain : run.domain ≡ receiver.domain
+  pub unit : t.runner.unit ≡ receiver.handler
   pub in_hand : t.kernel.hand ≡ Some message
-  pub receiver : message.to ≡ row.id
+  pub to : message.to ≡ receiver.face.id
 
 -- The running domain changes only by a dispatch while none runs, and by the handler's end.
 abbrev pub CrossesBy : Option Running → Option Running → State → Type 0
@@ -68,9 +68,10 @@ Crosses s t = CrossesBy s.kernel.running t.kernel.running t
 
 -- Clean unload.
 
--- Something still names the module or its domain.
+-- Something still names the module or its domain. A slot does where it is bound to a function in the domain.
 pub data Names (k : KernelState) (id domain : ℕ) : Type 0 where
-  a_module : (m : ModuleRow) → Contains k.modules m → (m.id ≡ id) ⊎ (m.domain ≡ domain) → Names k id domain
+  a_module : (m : Loaded) → Contains k.modules m → (m.face.id ≡ id) ⊎ (m.domain ≡ domain) → Names k id domain
+  a_slot : (d i p place : ℕ) → bound_slot (seats k.modules) d i ≡ Some (p, place) → p ≡ domain → Names k id domain
   a_message : (m : Message) → Contains (in_order k.queues) m → (m.to ≡ id) ⊎ (m.from ≡ id) → Names k id domain
   the_message : (m : Message) → k.hand ≡ Some m → (m.to ≡ id) ⊎ (m.from ≡ id) → Names k id domain
   a_block : (b : Segment) → Contains k.blocks b → b.owner ≡ domain → Names k id domain
@@ -80,7 +81,7 @@ pub data Names (k : KernelState) (id domain : ℕ) : Type 0 where
 -- Where a turn says that a module is unloaded, nothing names it or the domain that it had.
 abbrev pub UnloadsCleanly : State → State → List TraceLine → Type 0
 UnloadsCleanly s t lines =
-    (time : ℕ) (m : ModuleRow) → Contains lines (line.Unload time m.id) → Contains s.kernel.modules m → ¬ Names t.kernel m.id m.domain
+    (time : ℕ) (m : Loaded) → Contains lines (line.Unload time m.face.id) → Contains s.kernel.modules m → ¬ Names t.kernel m.face.id m.domain
 
 -- The other modules stay in their order, and so do the messages that don't name this one, and their blocks with
 -- the bytes in them.
@@ -93,7 +94,7 @@ pub record KeepsTheRest (k : KernelState) (id domain : ℕ) (new : KernelState) 
 -- Where a turn says that a module is unloaded, the others are as they were.
 abbrev pub UnloadsAlone : State → State → List TraceLine → Type 0
 UnloadsAlone s t lines =
-    (time : ℕ) (m : ModuleRow) → Contains lines (line.Unload time m.id) → Contains s.kernel.modules m → KeepsTheRest s.kernel m.id m.domain t.kernel
+    (time : ℕ) (m : Loaded) → Contains lines (line.Unload time m.face.id) → Contains s.kernel.modules m → KeepsTheRest s.kernel m.face.id m.domain t.kernel
 
 -- A turn, with all that holds of it.
 pub record LawfulTurn (s t : State) (lines : List TraceLine) : Type 0 where

@@ -1,8 +1,8 @@
 pub mod Bytes
 pub mod Command
 pub mod Script
-pub mod Image
 pub mod Units
+pub mod Prepared
 pub mod State
 pub mod Act
 pub mod Free

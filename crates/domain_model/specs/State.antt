@@ -4,14 +4,15 @@ use Rattle.mote_layout.specs.Memory.{ram_start, ram_bytes, message_frame_bytes, 
 use Rattle.mote_base.specs.declared.message.Msg.{Msg}
 use Rattle.mote_base.specs.Messages.{Lists}
 use Rattle.mote_layout.specs.declared.segment.Segment.{Segment}
-use Rattle.domain_model.specs.declared.unit.Unit.{Unit}
-use Rattle.domain_model.specs.declared.module.ModuleRow.{ModuleRow}
+use Rattle.unit_code.specs.declared.unit.Unit.{Unit}
+use Rattle.module_image.specs.declared.face.Face.{Face}
+use Rattle.module_image.specs.Links.{Seat}
 use Rattle.domain_model.specs.declared.handler.Running.{Running}
 use Rattle.domain_model.specs.declared.event.Event.{Event}
 use Rattle.domain_model.specs.declared.event.Turned.{Turned}
 use Rattle.domain_model.specs.declared.event.Turned.TheVariants.{More}
 use Rattle.domain_model.specs.Bytes.{low, high}
-use Rattle.domain_model.specs.Image.{Module, prepared}
+use Rattle.domain_model.specs.Prepared.{Prep, prepared}
 
 -- The processor: R0 to R31, the status register, the stack pointer, and the bytes of the memory.
 -- Byte i of the memory has the data address 0x0100 + i.
@@ -25,6 +26,15 @@ pub record Processor : Type 0 where
 abbrev pub Message : Type 0
 Message = Msg ⊤
 
+-- A module that is loaded: what it shows to others, its domain, the address of its state block or 0 where it has
+-- none, the unit at which a dispatch starts, and the units at which the functions that it provides begin.
+pub record Loaded : Type 0 where
+  pub face : Face
+  pub domain : ℕ
+  pub state : ℕ
+  pub handler : ℕ
+  pub entries : List ℕ
+
 -- What the kernel keeps: the clock, the processor, the owned blocks of the heap, the loaded modules in the
 -- order of their loads, the messages that wait, the domain that runs, the message in hand, and the id of the
 -- module whose last message that is. Outside a handler no domain runs, no message is in hand and no module
@@ -33,7 +43,7 @@ pub record KernelState : Type 0 where
   pub clock : ℕ
   pub processor : Processor
   pub blocks : List Segment
-  pub modules : List ModuleRow
+  pub modules : List Loaded
   pub queues : Lists Message
   pub running : Option Running
   pub hand : Option Message
@@ -45,12 +55,12 @@ pub record RunnerState : Type 0 where
   pub banks : List (List Unit)
   pub unit : ℕ
 
--- The whole: kernel and runner; the images by number, None for one that can't be loaded; the events of the
+-- The whole: kernel and runner; the images by number, None for one that is not built; the events of the
 -- script still to come; how many units a run and a handler may have, and have had; how the run stands.
 pub record State : Type 0 where
   pub kernel : KernelState
   pub runner : RunnerState
-  pub images : List (Option Module)
+  pub images : List (Option Prep)
   pub events : List Event
   pub unit_limit : ℕ
   pub handler_limit : ℕ
@@ -85,6 +95,11 @@ with_byte p a v = record p { memory = slice_set p.memory (a - ram_start) v }
 
 abbrev pub with_processor : KernelState → Processor → KernelState
 with_processor k p = record k { processor = p }
+
+-- The seats of the modules that are loaded: what each slot of theirs is bound to is said of these alone
+-- (`bound_slot`).
+abbrev pub seats : List Loaded → List Seat
+seats modules = map (λ m. record { domain = m.domain; face = m.face }) modules
 
 -- n bytes from place i on are 0
 abbrev pub with_zeros : List ℕ → ℕ → ℕ → List ℕ
@@ -131,7 +146,7 @@ abbrev pub no_runner : RunnerState
 no_runner = record { banks = replicate domain_count []; unit = 0 }
 
 -- The state in which a run of prepared images begins.
-abbrev pub begins : List (Option Module) → List Event → ℕ → ℕ → State
+abbrev pub begins : List (Option Prep) → List Event → ℕ → ℕ → State
 begins images events unit_limit handler_limit =
     record {
       kernel = no_kernel;

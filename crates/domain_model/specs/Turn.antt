@@ -1,13 +1,12 @@
 -- Turns and runs.
-use Rattle.std.specs.Prelude.{◌≡◌, ◌≢◌, ℕ, ◌+◌, ◌-◌, ◌*◌, ◌==◌, ◌||◌, nat_le, not, List, [], ◌∷◌, ◌++◌, drop, filter, find, Bool, true, false, Option, Some, None, slice_get, slice_set, ⊤}
+use Rattle.std.specs.Prelude.{◌≡◌, ◌≢◌, ℕ, ◌+◌, ◌-◌, ◌*◌, ◌==◌, ◌||◌, nat_le, not, List, [], ◌∷◌, ◌++◌, drop, filter, find, Bool, true, false, Option, Some, None, Ok, Err, slice_get, slice_set, ⊤}
 use Rattle.std.specs.List.{list_any}
 use Rattle.mote_layout.specs.Memory.{ram_start, heap_end, block_bytes, domain_count, stack_top}
 use Rattle.mote_base.specs.Messages.{Lists, front, without_front, names}
 use Rattle.mote_layout.specs.Blocks.{block_address, inserted, without_owner}
 use Rattle.mote_layout.specs.Fit.{fit, blocks_for, least_of}
 use Rattle.mote_layout.specs.declared.segment.Segment.{Segment}
-use Rattle.domain_model.specs.declared.unit.Unit.{Unit}
-use Rattle.domain_model.specs.declared.module.ModuleRow.{ModuleRow}
+use Rattle.unit_code.specs.declared.unit.Unit.{Unit}
 use Rattle.domain_model.specs.declared.handler.Running.{Running}
 use Rattle.domain_model.specs.declared.event.Event.{Event}
 use Rattle.domain_model.specs.declared.event.What.{What}
@@ -22,23 +21,24 @@ use Rattle.domain_model.specs.declared.fault.UnitEnd.{UnitEnd}
 use Rattle.domain_model.specs.declared.fault.UnitEnd.TheVariants.{On, Over, Fault}
 use Rattle.domain_model.specs.declared.line.TraceLine.{TraceLine}
 use Rattle.domain_model.specs.declared.line.TraceLine.TheVariants as line
-use Rattle.domain_model.specs.Image.{Module}
-use Rattle.domain_model.specs.State.{Message, KernelState, RunnerState, State, Input, start, dispatched, with_zeros}
+use Rattle.domain_model.specs.declared.refusal.Refusal.{Refusal}
+use Rattle.domain_model.specs.Prepared.{Module, Prep, refusal_number, refusal_kind, refusal_value, refusal_detail}
+use Rattle.domain_model.specs.State.{Message, Loaded, KernelState, RunnerState, State, Input, start, dispatched, with_zeros}
 use Rattle.domain_model.specs.Act.{Acted, id_at, is_loaded}
 use Rattle.domain_model.specs.Free.{SameState, UnitStep, is_kernel_byte}
 
 -- The kernel's part of a turn.
 
 -- the lowest domain that no module is in
-abbrev pub in_use : List ModuleRow → ℕ → Bool
+abbrev pub in_use : List Loaded → ℕ → Bool
 in_use modules domain = list_any (λ m. m.domain == domain) modules
 
-abbrev pub free_domain : List ModuleRow → Option ℕ
+abbrev pub free_domain : List Loaded → Option ℕ
 free_domain modules = least_of (λ domain. not (in_use modules domain)) 0 domain_count
 
 -- the loaded module with that id
-abbrev pub module_named : List ModuleRow → ℕ → Option ModuleRow
-module_named modules id = find (λ m. m.id == id) modules
+abbrev pub module_named : List Loaded → ℕ → Option Loaded
+module_named modules id = find (λ m. m.face.id == id) modules
 
 -- A state block: the blocks of the heap with it, the memory with its bytes cleared, and its address. A
 -- module that asks for no byte has none and the address 0.
@@ -64,20 +64,20 @@ abbrev pub given : KernelState → ℕ → ℕ → Option Given
 given k domain size = given_where (size == 0) k domain size
 
 -- the module is in
-abbrev pub admitted : KernelState → ModuleRow → Given → KernelState
-admitted k row g =
+abbrev pub admitted : KernelState → Loaded → Given → KernelState
+admitted k m g =
     record k {
       processor = record k.processor { memory = g.memory };
       blocks = g.blocks;
-      modules = k.modules ++ row ∷ [];
+      modules = k.modules ++ m ∷ [];
     }
 
--- the handler of a module starts with a message
-abbrev pub begun : KernelState → ModuleRow → Message → KernelState
-begun k row m =
+-- the handler of the module in a domain, with its state block at an address, starts with a message
+abbrev pub begun : KernelState → ℕ → ℕ → Message → KernelState
+begun k domain state m =
     record k {
-      processor = dispatched k.processor row.state m;
-      running = Some (record { domain = row.domain; base = stack_top; bound = stack_top });
+      processor = dispatched k.processor state m;
+      running = Some (record { domain = domain; base = stack_top; bound = stack_top });
       hand = Some m;
     }
 
@@ -86,7 +86,7 @@ abbrev pub handler_ended : KernelState → KernelState
 handler_ended k = record k { running = None; hand = None }
 
 -- the modules but the one in a domain, and the messages but those from or to an id
-abbrev pub without_domain : ℕ → List ModuleRow → List ModuleRow
+abbrev pub without_domain : ℕ → List Loaded → List Loaded
 without_domain domain modules = filter (λ m. not (m.domain == domain)) modules
 
 abbrev pub without_named : ℕ → List Message → List Message
@@ -167,9 +167,16 @@ pub record Moved : Type 0 where
   pub lines : List TraceLine
 
 -- nothing but the line of a refused load
+abbrev pub refused_by : ℕ → ℕ → ℕ → ℕ → ℕ → KernelState → RunnerState → Moved
+refused_by number kind value detail image k r =
+    record { kernel = k; runner = r; lines = line.Refused k.clock image number kind value detail ∷ [] }
+
 abbrev pub refused : ℕ → ℕ → KernelState → RunnerState → Moved
-refused number image k r =
-    record { kernel = k; runner = r; lines = line.Refused k.clock image number 0 0 0 ∷ [] }
+refused number image k r = refused_by number 0 0 0 image k r
+
+abbrev pub refused_file : Refusal → ℕ → KernelState → RunnerState → Moved
+refused_file refusal image k r =
+    refused_by (refusal_number refusal) (refusal_kind refusal) (refusal_value refusal) (refusal_detail refusal) image k r
 
 -- The kernel's own messages: short ones from sender 0. INIT, type 0, starts a module; FINAL, type 1, is its last.
 abbrev pub kernel_message : ℕ → ℕ → Message
@@ -183,18 +190,19 @@ abbrev pub final_to : ℕ → Message
 final_to id = kernel_message id 1
 
 -- the module is loaded, and its handler starts at once
-abbrev pub row_of : Module → ℕ → Given → ModuleRow
-row_of m domain g = record { id = m.id; domain = domain; state = g.address; handler = m.handler }
+abbrev pub seated : Module → ℕ → Given → Loaded
+seated m domain g = record { face = m.face; domain = domain; state = g.address; handler = m.handler; entries = m.entries }
 
 abbrev pub loaded : Module → ℕ → Given → KernelState → RunnerState → Moved
 loaded m domain g k r =
     record {
-      kernel = begun (admitted k (row_of m domain g) g) (row_of m domain g) (init_to m.id);
+      kernel = begun (admitted k (seated m domain g) g) domain g.address (init_to m.face.id);
       runner = entered (placed r domain m.units) m.handler;
-      lines = line.Load k.clock m.id domain g.address ∷ line.Run k.clock m.id 0 0 ∷ [];
+      lines = line.Load k.clock m.face.id domain g.address ∷ line.Run k.clock m.face.id 0 0 ∷ [];
     }
 
--- A load is refused as 4 where a module with the id is loaded, else as 5 where no domain is free, else as 6
+-- A file that holds no module is refused as 1 where it is no image and as 2 where its code has no units. Else a load is
+-- refused as 4 where a module with the id is loaded, else as 5 where no domain is free, else as 6
 -- where no run of blocks is long enough for the state.
 abbrev pub load_given : Option Given → Module → ℕ → ℕ → KernelState → RunnerState → Moved
 load_given None m domain image k r = refused 6 image k r
@@ -208,34 +216,38 @@ abbrev pub load_new : Bool → Module → ℕ → KernelState → RunnerState �
 load_new true m image k r = refused 4 image k r
 load_new false m image k r = load_in (free_domain k.modules) m image k r
 
--- An image that can't be loaded is not run: the command refuses it. So nothing is said of its load.
-abbrev pub load_image : Option (Option Module) → ℕ → KernelState → RunnerState → Moved
+abbrev pub load_prepared : Prep → ℕ → KernelState → RunnerState → Moved
+load_prepared (Err refusal) image k r = refused_file refusal image k r
+load_prepared (Ok m) image k r = load_new (is_loaded k.modules m.face.id) m image k r
+
+-- An image that is not built is not run: the command refuses it. So nothing is said of its load.
+abbrev pub load_image : Option (Option Prep) → ℕ → KernelState → RunnerState → Moved
 load_image None image k r = record { kernel = k; runner = r; lines = [] }
 load_image (Some None) image k r = record { kernel = k; runner = r; lines = [] }
-load_image (Some (Some m)) image k r = load_new (is_loaded k.modules m.id) m image k r
+load_image (Some (Some prep)) image k r = load_prepared prep image k r
 
 -- An unload of an id that no module has writes so. Else FINAL is dispatched, with the module as the one that ends.
-abbrev pub unload_module : Option ModuleRow → ℕ → KernelState → RunnerState → Moved
+abbrev pub unload_module : Option Loaded → ℕ → KernelState → RunnerState → Moved
 unload_module None id k r = record { kernel = k; runner = r; lines = line.Absent k.clock id ∷ [] }
-unload_module (Some row) id k r =
+unload_module (Some m) id k r =
     record {
-      kernel = record (begun k row (final_to id)) { ending = Some id };
-      runner = entered r row.handler;
+      kernel = record (begun k m.domain m.state (final_to id)) { ending = Some id };
+      runner = entered r m.handler;
       lines = line.Run k.clock id 1 0 ∷ [];
     }
 
-abbrev pub came : List (Option Module) → What → KernelState → RunnerState → Moved
+abbrev pub came : List (Option Prep) → What → KernelState → RunnerState → Moved
 came images (what.Load n) k r = load_image (slice_get images n) n k r
 came images (what.Unload id) k r = unload_module (module_named k.modules id) id k r
 
 -- The first message is dispatched to its receiver. In a state that a run reaches it is loaded.
-abbrev pub deliver : Option ModuleRow → Message → KernelState → RunnerState → Moved
+abbrev pub deliver : Option Loaded → Message → KernelState → RunnerState → Moved
 deliver None m k r = record { kernel = k; runner = r; lines = [] }
-deliver (Some row) m k r =
+deliver (Some receiver) m k r =
     record {
-      kernel = begun (record k { queues = without_front k.queues }) row m;
-      runner = entered r row.handler;
-      lines = line.Run k.clock row.id m.sort m.from ∷ [];
+      kernel = begun (record k { queues = without_front k.queues }) receiver.domain receiver.state m;
+      runner = entered r receiver.handler;
+      lines = line.Run k.clock receiver.face.id m.sort m.from ∷ [];
     }
 
 abbrev pub dispatch : Option Message → KernelState → RunnerState → Moved
@@ -246,13 +258,13 @@ dispatch (Some m) k r = deliver (module_named k.modules m.to) m k r
 abbrev pub ended : KernelState → KernelState
 ended k = record k { ending = None }
 
-abbrev pub close_module : Option ModuleRow → KernelState → RunnerState → List TraceLine → Moved
+abbrev pub close_module : Option Loaded → KernelState → RunnerState → List TraceLine → Moved
 close_module None k r lines = record { kernel = ended k; runner = r; lines = lines }
-close_module (Some row) k r lines =
+close_module (Some m) k r lines =
     record {
-      kernel = ended (purged k row.id row.domain);
-      runner = emptied r row.domain;
-      lines = lines ++ line.Unload k.clock row.id ∷ [];
+      kernel = ended (purged k m.face.id m.domain);
+      runner = emptied r m.domain;
+      lines = lines ++ line.Unload k.clock m.face.id ∷ [];
     }
 
 abbrev pub close : Option ℕ → KernelState → RunnerState → List TraceLine → Moved

@@ -1,5 +1,4 @@
 //! The laws of the machine. Each stands over the definitions alone.
-ghost use Rattle.domain_model.specs.Image.{ImagesAreTheirFields};
 ghost use Rattle.domain_model.specs.Laws.{TurnsAreLawful, RunsAreLawful, RunsEnd};
 
 /// Law: every turn from a good state keeps it good, is confined to what is the running domain's, changes the
@@ -13,9 +12,4 @@ pub fn every_turn_is_lawful()
 /// Law: from every good state there is a run to an end.
 pub fn every_good_state_runs_to_an_end()
     ensures { RunsEnd }
-{}
-
-/// Law: what is read from an image's bytes are the fields that they were written from.
-pub fn images_are_their_fields()
-    ensures { ImagesAreTheirFields }
 {}

@@ -3,6 +3,8 @@
 /// What the words of the command line ask for.
 #[derive(Clone, Copy, Debug, PartialEq, Eq)]
 pub enum Kind {
-    /// Run a script over an image.
+    /// Run a script over images.
     Run,
+    /// List the units of an image.
+    Listing,
 }
