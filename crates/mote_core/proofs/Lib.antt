@@ -1,9 +1,9 @@
 pub mod Least
 pub mod MoteLaws
 pub mod Named
+pub mod Prepared
 pub mod Retained
 pub mod Rooms
 pub mod RowLaws
 pub mod ScriptCuts
 pub mod ScriptSteps
-pub mod Spelling

@@ -7,8 +7,7 @@ use Rattle.mote_layout.specs.Fit.{fit}
 use Rattle.mote_layout.specs.declared.segment.Segment.{Segment}
 use Rattle.mote_layout.proofs.BlockLists.{AreBlocks-inserted, length-blocks}
 use Rattle.mote_layout.proofs.LeastFit.{fit-some}
-use Rattle.domain_model.specs.declared.module.ModuleRow.{ModuleRow}
-use Rattle.domain_model.specs.State.{RunnerState}
+use Rattle.domain_model.specs.State.{Loaded, RunnerState}
 use Rattle.domain_model.specs.Turn.{in_use, without_domain}
 use Rattle.domain_model.specs.Act.{is_loaded}
 use Rattle.domain_model.specs.Good.{AreDistinct, IsApart, GoodModule}
@@ -42,7 +41,7 @@ room_for ss s some owner are found =
     }
 
 -- without the modules of one domain at most one is gone
-one_out : (rows : List ModuleRow) (domain : ℕ) → AreDistinct rows → length rows ≤ length (without_domain domain rows) + 1
+one_out : (rows : List Loaded) (domain : ℕ) → AreDistinct rows → length rows ≤ length (without_domain domain rows) + 1
 one_out [] domain d = omega arith
 one_out (m ∷ ms) domain d =
     elim (cases_Bool (m.domain == domain)) [
@@ -53,7 +52,7 @@ one_out (m ∷ ms) domain d =
       | inr other ↦ rw other (omega (arith, one_out ms domain d.1))
     ]
   where
-    nothing_out : (rows : List ModuleRow) → AllByRecursion (λ (n : ModuleRow). n.domain ≢ domain) rows → length (without_domain domain rows) ≡ length rows
+    nothing_out : (rows : List Loaded) → AllByRecursion (λ (n : Loaded). n.domain ≢ domain) rows → length (without_domain domain rows) ≡ length rows
     nothing_out [] h = refl
     nothing_out (n ∷ ns) h =
         let rest : length (without_domain domain ns) ≡ length ns = nothing_out ns h.1 in
@@ -63,19 +62,19 @@ one_out (m ∷ ms) domain d =
         ]
 
 -- modules in distinct domains below a number are at most so many
-few : (bound : ℕ) (rows : List ModuleRow) → AreDistinct rows → AllByRecursion (λ m. m.domain < bound) rows → length rows ≤ bound
+few : (bound : ℕ) (rows : List Loaded) → AreDistinct rows → AllByRecursion (λ m. m.domain < bound) rows → length rows ≤ bound
 few zero [] d below = omega arith
 few zero (m ∷ ms) d below = absurd (omega (arith, below.0))
 few (suc bound) rows d below =
     let rest : length (without_domain bound rows) ≤ bound =
     few bound (without_domain bound rows) (distinct_filter (λ m. not (m.domain == bound)) rows d)
-    (each_filter (λ (m : ModuleRow). m.domain < suc bound) (λ m. m.domain < bound) (λ m. not (m.domain == bound)) (λ m kept h. omega (arith, h, other_domain m.domain bound kept)) rows below) in
+    (each_filter (λ (m : Loaded). m.domain < suc bound) (λ m. m.domain < bound) (λ m. not (m.domain == bound)) (λ m kept h. omega (arith, h, other_domain m.domain bound kept)) rows below) in
     omega (arith, rest, one_out rows bound d)
 
 -- a free domain leaves room for its module
-pub room_for_module : (r : RunnerState) (rows : List ModuleRow) (row : ModuleRow) → AreDistinct rows → AllByRecursion (GoodModule r) rows → row.domain < 7 → in_use rows row.domain ≡ false → is_loaded rows row.id ≡ false → length rows < 7
+pub room_for_module : (r : RunnerState) (rows : List Loaded) (row : Loaded) → AreDistinct rows → AllByRecursion (GoodModule r) rows → row.domain < 7 → in_use rows row.domain ≡ false → is_loaded rows row.face.id ≡ false → length rows < 7
 room_for_module r rows row d good below free new =
     let more : length (rows ++ row ∷ []) ≤ 7 =
     few 7 (rows ++ row ∷ []) (distinct_push rows row d (all_apart rows row new free))
-    (each_push (λ (m : ModuleRow). m.domain < 7) rows row (each_weaker (GoodModule r) (λ m. m.domain < 7) (λ m g. g.domain) rows good) below) in
+    (each_push (λ (m : Loaded). m.domain < 7) rows row (each_weaker (GoodModule r) (λ m. m.domain < 7) (λ m g. g.domain) rows good) below) in
     omega (arith, more, length-append rows (row ∷ []))

@@ -1,16 +1,18 @@
 //! The kernel: the clock, the processor, the owned blocks, the loaded modules, and what runs.
-ghost use Rattle.std.specs.Prelude.{◌≡◌, ◌<◌, ◌≤◌, ◌+◌, ◌*◌, ◌==◌, ◌++◌, ◌∷◌, [], length, IfOk, IfSome, IfNone, Some, None, is_some};
+ghost use Rattle.std.specs.Prelude.{◌≡◌, ◌<◌, ◌≤◌, ◌+◌, ◌*◌, ◌==◌, ◌++◌, ◌∷◌, [], length, IfOk, MatchOption, IfSome, IfNone, Some, None, is_some};
 ghost use Rattle.mote_layout.specs.Blocks.{AreBlocks};
+ghost use Rattle.mote_layout.specs.Memory.{domain_count};
 ghost use Rattle.domain_model.specs.State.{no_kernel, with_processor, with_register, with_byte};
 ghost use Rattle.domain_model.specs.Act.{id_at, is_loaded, may_store, answered, message_of, post_short};
-ghost use Rattle.domain_model.specs.Turn.{in_use, module_named, free_domain, given, begun, ended, handler_ended, purged, unnamed, without_domain, at_clock};
+ghost use Rattle.domain_model.specs.Turn.{module_named, free_domain, given, begun, ended, handler_ended, purged, unnamed, at_clock};
 ghost use Rattle.mote_base.specs.Messages.{front, without_front};
 ghost use Rattle.mote_core.specs.Kernel.{given_as, with_memory_and_blocks};
 
 use crate::avr_machine::Cpu;
+use crate::loaded::{Loaded, ModuleRow};
+use crate::modules::Modules;
 use crate::sos_heap::{Blocks, block_address};
-use arrayvec::ArrayVec;
-use domain_model::{ModuleRow, Running};
+use domain_model::Running;
 use mote_base::{Msg, NoMemory};
 use mote_layout::{BLOCK_BYTES, DOMAINS, STACK_TOP};
 use msg_queue::Queues;
@@ -41,7 +43,7 @@ pub struct Kernel {
     clock: u64,
     cpu: Cpu,
     blocks: Blocks,
-    modules: ArrayVec<ModuleRow, 7>,
+    modules: Modules,
     queues: Queues<()>,
     running: Option<Running>,
     hand: Option<Msg<()>>,
@@ -57,7 +59,7 @@ impl Model for Kernel {
       clock = k.clock;
       processor = k.cpu;
       blocks = k.blocks;
-      modules = k.modules.items;
+      modules = k.modules;
       queues = k.queues;
       running = k.running;
       hand = k.hand;
@@ -74,7 +76,7 @@ impl Kernel {
             clock: 0,
             cpu: Cpu::new(alloc)?,
             blocks: Blocks::new(),
-            modules: ArrayVec::new(),
+            modules: Modules::new(alloc)?,
             queues: Queues::new(alloc)?,
             running: None,
             hand: None,
@@ -104,26 +106,21 @@ impl Kernel {
     pub fn id_at(&self, domain: u8) -> u8
         ensures { result ≡ id_at self.now.modules domain }
     {
-        for row in self.modules.as_slice() {
-            if row.domain == domain {
-                return row.id;
-            }
-        }
-        0
+        self.modules.id_at(domain)
     }
 
     /// Whether a module with that id is loaded.
     pub fn is_loaded(&self, id: u8) -> bool
         ensures { result ≡ is_loaded self.now.modules id }
     {
-        self.modules.as_slice().iter().any(|m| m.id == id)
+        self.modules.is_loaded(id)
     }
 
     /// The module with that id.
-    pub fn module_named(&self, id: u8) -> Option<ModuleRow>
-        ensures { result ≡ module_named self.now.modules id }
+    pub fn module_named(&self, id: u8) -> Option<&Loaded>
+        ensures { MatchOption result (module_named self.now.modules id ≡ None) (λ m. module_named self.now.modules id ≡ Some m.now) }
     {
-        find_named(self.modules.as_slice(), id)
+        self.modules.named(id)
     }
 
     /// The id of the module whose last message is in hand.
@@ -183,7 +180,7 @@ impl Kernel {
     pub fn free_domain(&self) -> Option<u8>
         ensures { result ≡ free_domain self.now.modules }
     {
-        first_free(self.modules.as_slice())
+        self.modules.free_domain()
     }
 
     /// Whether the running domain may store to an address.
@@ -236,16 +233,16 @@ impl Kernel {
     }
 
     /// Takes a module in.
-    pub fn add_module(&mut self, row: ModuleRow)
-        requires { length self.old.modules < 7 }
-        ensures { self.new ≡ record self.old { modules = self.old.modules ++ row ∷ [] } }
+    pub fn add_module(&mut self, loaded: Loaded)
+        requires { length self.old.modules < domain_count }
+        ensures { self.new ≡ record self.old { modules = self.old.modules ++ loaded ∷ [] } }
     {
-        self.modules.push(row);
+        self.modules.add(loaded);
     }
 
     /// Starts the handler of a module with a message.
     pub fn begin(&mut self, row: &ModuleRow, message: Msg<()>)
-        ensures { self.new ≡ begun self.old row.now message }
+        ensures { self.new ≡ begun self.old row.now.domain row.now.state message }
     {
         self.cpu.dispatch(row.state, &message);
         self.running = Some(Running {
@@ -258,7 +255,7 @@ impl Kernel {
 
     /// Starts the handler of a module with its last message.
     pub fn finish(&mut self, row: &ModuleRow, message: Msg<()>)
-        ensures { self.new ≡ record (begun self.old row.now message) { ending = Some message.to } }
+        ensures { self.new ≡ record (begun self.old row.now.domain row.now.state message) { ending = Some message.to } }
     {
         self.ending = Some(message.to);
         self.begin(row, message);
@@ -283,7 +280,7 @@ impl Kernel {
     pub fn purge(&mut self, id: u8, domain: u8)
         ensures { self.new ≡ purged self.old id domain }
     {
-        remove_domain(&mut self.modules, domain);
+        self.modules.remove(domain);
         self.blocks.purge(domain);
         remove_named(&mut self.queues, id);
     }
@@ -293,36 +290,6 @@ impl Kernel {
     {
         self.clock = now;
     }
-}
-
-fn in_use(modules: &[ModuleRow], domain: u8) -> bool
-    ensures { result ≡ in_use modules.now domain }
-{
-    modules.iter().any(|m| m.domain == domain)
-}
-
-// The lowest domain that no module is in.
-fn first_free(modules: &[ModuleRow]) -> Option<u8>
-    ensures { result ≡ free_domain modules.now }
-{
-    for domain in 0..DOMAINS {
-        if !in_use(modules, domain) {
-            return Some(domain);
-        }
-    }
-    None
-}
-
-fn find_named(modules: &[ModuleRow], id: u8) -> Option<ModuleRow>
-    ensures { result ≡ module_named modules.now id }
-{
-    modules.iter().copied().find(|m| is_named(m, id))
-}
-
-fn is_named(row: &ModuleRow, id: u8) -> bool
-    ensures { result ≡ (row.now.id == id) }
-{
-    row.id == id
 }
 
 // Takes every message from or to a module out.
@@ -335,10 +302,4 @@ fn remove_named(queues: &mut Queues<()>, id: u8)
             None => return,
         }
     }
-}
-
-fn remove_domain(modules: &mut ArrayVec<ModuleRow, 7>, domain: u8)
-    ensures { modules.new.items ≡ without_domain domain modules.old.items }
-{
-    modules.retain(|m| m.domain != domain);
 }

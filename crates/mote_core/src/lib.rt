@@ -3,22 +3,21 @@
 //! `Mote::turn` is a turn of the machine of domains and writes its lines; `Mote::new` gives the state in which
 //! a run begins. `Ready` is an image that was prepared for its load, and `Script` the events of a run.
 //!
-//! Parts that are to be crates of their own stand here as private modules under the crates' names:
-//! `module_image` and `unit_code` read an image and its units, `event_script` reads a script, `avr_machine` is
-//! the processor, `sos_heap` the owned blocks, `kernel_call` the kernel, `unit_run` runs units, and
-//! `mod_loader` prepares images.
+//! Parts that are to be crates of their own stand here as private modules under the crates' names: `event_script`
+//! reads a script, `avr_machine` is the processor, `sos_heap` the owned blocks, `kernel_call` the kernel, `unit_run`
+//! runs units, and `mod_loader` prepares images, whose fields `module_image` reads and whose units `unit_code`.
 #![tactic(auto)]
 
 mod avr_machine;
 mod event_script;
 mod kernel_call;
 mod limits;
+mod loaded;
 mod mod_loader;
-mod module_image;
+mod modules;
 mod mote;
 mod sos_heap;
 mod turns;
-mod unit_code;
 mod unit_run;
 
 pub use event_script::{Script, parse_script};

@@ -1,38 +1,52 @@
 //! Images, prepared for their load.
-ghost use Rattle.std.specs.Prelude.{◌≡◌, ◌<◌, IfOk, IfSome, MatchOption, IsTrue, Some, None, length, is_some};
-ghost use Rattle.std.specs.List.{AllByRecursion};
-ghost use Rattle.domain_model.specs.Image.{Module, prepared};
+ghost use Rattle.std.specs.Prelude.{◌≡◌, ◌≤◌, ◌+◌, IfOk, MatchOption, None, Some, is_some, length};
+ghost use Rattle.unit_code.specs.Listing.{FitsTogether};
+ghost use Rattle.unit_code.specs.Proper.{IsProper};
+ghost use Rattle.module_image.specs.Contents.{FaceRules};
+ghost use Rattle.domain_model.specs.Prepared.{marks_of, module_of, prepared, prepared_contents, prepared_units};
+ghost use Rattle.domain_model.specs.Units.{are_built, is_built};
 ghost use Rattle.domain_model.specs.Good.{IsGoodImage};
 
-use crate::module_image::parse;
-use crate::unit_code::units;
-use domain_model::Unit;
+use crate::loaded::Loaded;
+use arrayvec::ArrayVec;
+use avr_isa::Instr;
+use domain_model::Refusal;
+use module_image::{Face, ImageView, parse};
 use mote_base::NoMemory;
 use std::alloc::Global;
 use std::marker::Model;
+use unit_code::{CodeError, Unit, UnitList, units};
+
+/// The kernel calls that are built, by number.
+const POST_SHORT: u8 = 3;
+
+const SAY: u8 = 8;
+
+const MY_ID: u8 = 11;
 
 /// A module that can be loaded.
 #[derive(Drop)]
 pub struct Loadable {
-    id: u8,
+    face: Face,
     state_size: u16,
     handler: u16,
+    entries: ArrayVec<u16, 16>,
     units: Vec<Unit>,
 }
 
 impl Model for Loadable {
-    ghost use Rattle.domain_model.specs.Image.{Module};
+    ghost use Rattle.domain_model.specs.Prepared.{Module};
 
     ghost Value = { Module };
 
-    ghost view = { λ m. record { id = m.id; state_size = m.state_size; handler = m.handler; units = m.units.items } };
+    ghost view = { λ m. record { face = m.face; state_size = m.state_size; handler = m.handler; entries = m.entries.items; units = m.units.items } };
 }
 
 impl Loadable {
     pub fn id(&self) -> u8
-        ensures { result ≡ self.now.id }
+        ensures { result ≡ self.now.face.id }
     {
-        self.id
+        self.face.id
     }
 
     pub fn state_size(&self) -> u16
@@ -52,21 +66,35 @@ impl Loadable {
     {
         self.units.as_slice()
     }
+
+    /// The module in a domain, with its state block at an address.
+    pub fn in_domain(&self, domain: u8, state: u16) -> Loaded
+        ensures { result ≡ record { face = self.now.face; domain = domain; state = state; handler = self.now.handler; entries = self.now.entries } }
+    {
+        Loaded {
+            face: self.face.copied(),
+            domain,
+            state,
+            handler: self.handler,
+            entries: numbers(self.entries.as_slice()),
+        }
+    }
 }
 
-/// An image file that was read and prepared: the module that it holds, or none where that can't be loaded.
+/// The file of an image that was read and prepared: the module that it holds, or why it holds none; or neither, where
+/// the image is not built.
 #[derive(Drop)]
 pub struct Ready {
-    module: Option<Loadable>,
+    prepared: Option<Result<Loadable, Refusal>>,
 }
 
 impl Model for Ready {
     ghost use Rattle.std.specs.Prelude.{Option};
-    ghost use Rattle.domain_model.specs.Image.{Module};
+    ghost use Rattle.domain_model.specs.Prepared.{Prep};
 
-    ghost Value = { Option Module };
+    ghost Value = { Option Prep };
 
-    ghost view = { λ r. r.module };
+    ghost view = { λ r. r.prepared };
 }
 
 impl Ready {
@@ -75,32 +103,120 @@ impl Ready {
         ensures prepared { IfOk result (λ r. r ≡ prepared file.now) }
         ensures good { IfOk result (λ r. IsGoodImage r) }
     {
-        let Some(image) = parse(file) else {
-            return Ok(Ready { module: None });
-        };
-        let Some(units) = units(alloc, &image.code)? else {
-            return Ok(Ready { module: None });
-        };
-        Ok(Ready {
-            module: Some(Loadable {
-                id: image.id,
-                state_size: image.state_size,
-                handler: 0,
-                units,
+        match parse(file) {
+            Err(error) => Ok(Ready {
+                prepared: Some(Err(Refusal::Image(error))),
             }),
-        })
+            Ok(image) => {
+                let prepared = prepared_contents(alloc, &image)?;
+                Ok(Ready { prepared })
+            }
+        }
     }
 
-    /// Whether the image holds a module that can be loaded.
-    pub fn can_be_loaded(&self) -> bool
+    /// Whether the image is built.
+    pub fn is_built(&self) -> bool
         ensures { result ≡ is_some self.now }
     {
-        self.module.is_some()
+        self.prepared.is_some()
     }
 
-    pub fn module(&self) -> Option<&Loadable>
-        ensures { MatchOption result (self.now ≡ None) (λ m. self.now ≡ Some m.now) }
+    /// The module, or why there is none.
+    pub fn prepared(&self) -> Option<&Result<Loadable, Refusal>>
+        ensures { MatchOption result (self.now ≡ None) (λ p. self.now ≡ Some p.now) }
     {
-        self.module.as_ref()
+        self.prepared.as_ref()
     }
+}
+
+// Prepares an image whose fields were read.
+fn prepared_contents(
+    alloc: Global,
+    image: &ImageView<'_>,
+) -> Result<Option<Result<Loadable, Refusal>>, NoMemory>
+    requires face { FaceRules image.now.face }
+    requires code { length image.now.code ≤ 65535 }
+    ensures prepared { IfOk result (λ p. p ≡ prepared_contents image.now.rewritten image.now) }
+    ensures good { IfOk result (λ p. IsGoodImage p) }
+{
+    if image.rewritten() {
+        return Ok(None);
+    }
+    let marks = image.marks();
+    match units(alloc, &image.code(), marks.as_slice()) {
+        Ok(list) => Ok(prepared_units(image, list)),
+        Err(CodeError::NoMemory) => Err(NoMemory),
+        Err(error) => Ok(Some(Err(Refusal::Code(error)))),
+    }
+}
+
+// Prepares an image whose units were read.
+fn prepared_units(image: &ImageView<'_>, list: UnitList) -> Option<Result<Loadable, Refusal>>
+    requires face { FaceRules image.now.face }
+    requires proper { IsProper list.units }
+    requires together { FitsTogether list (marks_of image.now) }
+    ensures prepared { result ≡ prepared_units image.now list }
+    ensures good { IsGoodImage result }
+{
+    if are_built(list.units.as_slice()) {
+        Some(Ok(module_of(image, list)))
+    } else {
+        None
+    }
+}
+
+// The module of an image with these units.
+fn module_of(image: &ImageView<'_>, list: UnitList) -> Loadable
+    requires marks { length list.marks ≡ length image.now.face.provided.items + 1 }
+    requires provided { length image.now.face.provided.items ≤ 16 }
+    ensures { result ≡ module_of image.now list }
+{
+    Loadable {
+        face: image.face(),
+        state_size: image.state_size(),
+        handler: list.marks[0],
+        entries: numbers(&list.marks[1..]),
+        units: list.units,
+    }
+}
+
+// The numbers of a module's entries.
+fn numbers(units: &[u16]) -> ArrayVec<u16, 16>
+    requires { length units.now ≤ 16 }
+    ensures { result.items ≡ units.now }
+{
+    let mut numbers = ArrayVec::new();
+    numbers.try_extend_from_slice(units).unwrap();
+    numbers
+}
+
+fn are_built(units: &[Unit]) -> bool
+    ensures { result ≡ are_built units.now }
+{
+    units.iter().all(is_built)
+}
+
+// Whether the unit can run.
+fn is_built(unit: &Unit) -> bool
+    ensures { result ≡ is_built unit.now }
+{
+    match unit {
+        Unit::Plain(instruction) => is_built_plain(instruction),
+        Unit::Store(instruction) => is_built_store(instruction),
+        Unit::KernelCall(number) => matches!(*number, POST_SHORT | SAY | MY_ID),
+        Unit::Return => true,
+        _ => false,
+    }
+}
+
+fn is_built_plain(instruction: &Instr) -> bool
+    ensures { result ≡ is_built (Unit.Plain instruction.now) }
+{
+    matches!(instruction, Instr::Ldi(_, _) | Instr::Mov(_, _))
+}
+
+fn is_built_store(instruction: &Instr) -> bool
+    ensures { result ≡ is_built (Unit.Store instruction.now) }
+{
+    matches!(instruction, Instr::StX(_))
 }

@@ -1,17 +1,18 @@
 //! What turns do to kernel and runner.
-ghost use Rattle.std.specs.Prelude.{◌≡◌, ◌<◌, ◌≤◌, ◌+◌, [], ◌∷◌, ◌++◌, length, Some, slice_get};
-ghost use Rattle.domain_model.specs.Turn.{came, load_image, unload_module, module_named, dispatch, close, begun, entered, init_to, kernel_message, faulted, settled};
+ghost use Rattle.std.specs.Prelude.{◌≡◌, ◌<◌, ◌≤◌, ◌+◌, [], ◌∷◌, ◌++◌, length, Some, Ok, slice_get};
+ghost use Rattle.domain_model.specs.Turn.{came, load_prepared, unload_module, module_named, dispatch, close, begun, entered, init_to, kernel_message, faulted, settled};
 ghost use Rattle.mote_base.specs.Messages.{front};
 ghost use Rattle.mote_core.specs.Rows.{AreInDomains};
 ghost use Rattle.domain_model.specs.Act.{act};
-ghost use Rattle.domain_model.specs.Image.{Module};
+ghost use Rattle.domain_model.specs.Prepared.{refusal_detail, refusal_kind, refusal_number, refusal_value};
 ghost use Rattle.domain_model.specs.Good.{GoodMachine, GoodImage, IsGoodImage};
 ghost use Rattle.std.specs.List.{AllByRecursion};
 
 use crate::kernel_call::Kernel;
+use crate::loaded::ModuleRow;
 use crate::mod_loader::{Loadable, Ready};
 use crate::unit_run::PlainRunner;
-use domain_model::{FaultNote, Lines, ModuleRow, Running, TraceLine, UnitEnd, What};
+use domain_model::{FaultNote, Lines, Refusal, Running, TraceLine, UnitEnd, What};
 use mote_base::Msg;
 
 /// Why a load is refused, by the number that its line gives.
@@ -57,8 +58,8 @@ pub fn come(images: &[Ready], what: What, k: &mut Kernel, r: &mut PlainRunner, l
     match what {
         What::Load(number) => {
             if let Some(ready) = images.get(usize::from(number)) {
-                if let Some(loadable) = ready.module() {
-                    load(loadable, number, k, r, lines);
+                if let Some(prepared) = ready.prepared() {
+                    load_prepared(prepared, number, k, r, lines);
                 }
             }
         }
@@ -76,7 +77,8 @@ fn unload(id: u8, k: &mut Kernel, r: &mut PlainRunner, lines: &mut Lines)
     let time = k.clock();
     match k.module_named(id) {
         None => lines.add(TraceLine::Absent { time, id }),
-        Some(row) => {
+        Some(loaded) => {
+            let row = loaded.row();
             k.finish(&row, kernel_message(id, FINAL));
             r.enter(row.handler);
             lines.add(TraceLine::Run {
@@ -98,9 +100,10 @@ pub fn dispatch(k: &mut Kernel, r: &mut PlainRunner, lines: &mut Lines)
     ensures lines { lines.new ≡ (dispatch (front k.old.queues) k.old r.old).lines }
 {
     if let Some(message) = k.next_message() {
-        let Some(row) = k.module_named(message.to) else {
+        let Some(receiver) = k.module_named(message.to) else {
             unreachable!()
         };
+        let row = receiver.row();
         lines.add(TraceLine::Run {
             time: k.clock(),
             id: row.id,
@@ -126,14 +129,50 @@ fn refuse(number: u8, image: u8, k: &Kernel, lines: &mut Lines)
     });
 }
 
+// Writes the line of a file that holds no module.
+fn refuse_file(refusal: &Refusal, image: u8, k: &Kernel, lines: &mut Lines)
+    requires { length lines.old < 512 }
+    ensures { lines.new ≡ lines.old ++ TraceLine.Refused k.now.clock image (refusal_number refusal.now) (refusal_kind refusal.now) (refusal_value refusal.now) (refusal_detail refusal.now) ∷ [] }
+{
+    lines.add(TraceLine::Refused {
+        time: k.clock(),
+        image,
+        number: refusal.number(),
+        k: refusal.kind(),
+        p: refusal.value(),
+        q: refusal.detail(),
+    });
+}
+
+// Loads the module of an image file, or says why not.
+fn load_prepared(
+    prepared: &Result<Loadable, Refusal>,
+    image: u8,
+    k: &mut Kernel,
+    r: &mut PlainRunner,
+    lines: &mut Lines,
+)
+    requires empty { lines.old ≡ [] }
+    requires machine { GoodMachine k.old r.old }
+    requires prepared { IsGoodImage (Some prepared.now) }
+    ensures kernel { k.new ≡ (load_prepared prepared.now image k.old r.old).kernel }
+    ensures runner { r.new ≡ (load_prepared prepared.now image k.old r.old).runner }
+    ensures lines { lines.new ≡ (load_prepared prepared.now image k.old r.old).lines }
+{
+    match prepared {
+        Ok(loadable) => load(loadable, image, k, r, lines),
+        Err(refusal) => refuse_file(refusal, image, k, lines),
+    }
+}
+
 // Loads a module, or says why not.
 fn load(loadable: &Loadable, image: u8, k: &mut Kernel, r: &mut PlainRunner, lines: &mut Lines)
     requires empty { lines.old ≡ [] }
     requires machine { GoodMachine k.old r.old }
     requires loadable { GoodImage loadable.now }
-    ensures kernel { k.new ≡ (load_image (Some (Some loadable.now)) image k.old r.old).kernel }
-    ensures runner { r.new ≡ (load_image (Some (Some loadable.now)) image k.old r.old).runner }
-    ensures lines { lines.new ≡ (load_image (Some (Some loadable.now)) image k.old r.old).lines }
+    ensures kernel { k.new ≡ (load_prepared (Ok loadable.now) image k.old r.old).kernel }
+    ensures runner { r.new ≡ (load_prepared (Ok loadable.now) image k.old r.old).runner }
+    ensures lines { lines.new ≡ (load_prepared (Ok loadable.now) image k.old r.old).lines }
 {
     if k.is_loaded(loadable.id()) {
         return refuse(DUPLICATE, image, k, lines);
@@ -150,7 +189,7 @@ fn load(loadable: &Loadable, image: u8, k: &mut Kernel, r: &mut PlainRunner, lin
         state,
         handler: loadable.handler(),
     };
-    k.add_module(row);
+    k.add_module(loadable.in_domain(domain, state));
     r.place(domain, loadable.units());
     start(&row, k, r, lines);
 }
@@ -158,7 +197,7 @@ fn load(loadable: &Loadable, image: u8, k: &mut Kernel, r: &mut PlainRunner, lin
 // Starts a module that was loaded just now.
 fn start(row: &ModuleRow, k: &mut Kernel, r: &mut PlainRunner, lines: &mut Lines)
     requires empty { lines.old ≡ [] }
-    ensures kernel { k.new ≡ begun k.old row.now (init_to row.now.id) }
+    ensures kernel { k.new ≡ begun k.old row.now.domain row.now.state (init_to row.now.id) }
     ensures runner { r.new ≡ entered r.old row.now.handler }
     ensures lines { lines.new ≡ TraceLine.Load k.old.clock row.now.id row.now.domain row.now.state ∷ TraceLine.Run k.old.clock row.now.id 0 0 ∷ [] }
 {
@@ -215,7 +254,8 @@ fn close(k: &mut Kernel, r: &mut PlainRunner, lines: &mut Lines)
     let Some(id) = k.ending() else {
         return;
     };
-    if let Some(row) = k.module_named(id) {
+    if let Some(loaded) = k.module_named(id) {
+        let row = loaded.row();
         lines.add(TraceLine::Unload {
             time: k.clock(),
             id: row.id,

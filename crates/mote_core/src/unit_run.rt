@@ -9,11 +9,12 @@ ghost use Rattle.domain_model.specs.Good.{GoodMachine, GoodRunning};
 
 use crate::kernel_call::Kernel;
 use avr_isa::Instr;
-use domain_model::{FaultNote, Lines, Rule, Running, TraceLine, Unit, UnitEnd};
+use domain_model::{FaultNote, Lines, Rule, Running, TraceLine, UnitEnd};
 use mote_base::NoMemory;
 use mote_layout::DOMAINS;
 use std::alloc::Global;
 use std::marker::Model;
+use unit_code::Unit;
 
 /// The lower register of X.
 const X: u8 = 26;
@@ -39,7 +40,7 @@ struct Bank {
 
 impl Model for Bank {
     ghost use Rattle.std.specs.Prelude.{◌≤◌, List, vec_capacity};
-    ghost use Rattle.domain_model.specs.declared.unit.Unit.{Unit};
+    ghost use Rattle.unit_code.specs.declared.unit.Unit.{Unit};
 
     ghost Value = { List Unit };
 
@@ -224,6 +225,7 @@ impl PlainRunner {
                     fault(Rule::Balance, sp)
                 }
             }
+            _ => unreachable!(),
         }
     }
 

@@ -1,4 +1,5 @@
 use Rattle.std.proofs.Common.{◌∙◌, sym, ap}
+use Rattle.std.proofs.lemmas.Option.{none-some}
 use Rattle.domain_model.specs.State.{KernelState}
 use Rattle.domain_model.specs.Turn.{module_named}
 use Rattle.domain_model.proofs.MachineLaws.{receiver_loaded}
@@ -8,4 +9,4 @@ pub unreachable-requires : goal.unreachable-requires
 unreachable-requires c =
     let receiver = receiver_loaded c.args.k.now c.args.r.now c.in-Some.message c.requires.machine (sym c.next_message.ensures.front ∙ c.in-Some.is) in
     let modules = ap (λ (k : KernelState). module_named k.modules c.in-Some.message.to) c.next_message.ensures.rest in
-    c.in_default-module_named.not-Some receiver.row (c.module_named.ensures ∙ modules ∙ receiver.found)
+    none-some receiver.row (sym c.in_default-module_named.ensures ∙ modules ∙ receiver.found)

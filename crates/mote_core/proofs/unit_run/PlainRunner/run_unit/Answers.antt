@@ -1,5 +1,5 @@
-use Rattle.std.proofs.Common.{◌∙◌, sym, arith}
-use Rattle.domain_model.proofs.ActLaws.{unit_is_built, next_unit_built, running_good, bank_proper}
+use Rattle.std.proofs.Common.{◌∙◌, sym}
+use Rattle.domain_model.proofs.ActLaws.{unit_is_built, next_unit_built, unit_in_bank}
 use Rattle.mote_core.proofs.unit_run.PlainRunner.run_unit.Goals as goal
 
 pub run_one-requires-clause-built : goal.run_one-requires-clause-built
@@ -7,9 +7,7 @@ run_one-requires-clause-built c = unit_is_built c.args.k.now c.args.self.now c.a
 
 pub run_one-requires-clause-unit : goal.run_one-requires-clause-unit
 run_one-requires-clause-unit c =
-    let good = (running_good c.args.k.now c.args.self.now c.args.run.now c.requires.good c.requires.running).0 in
-    let proper = bank_proper c.args.k.now c.args.self.now c.args.run.now c.requires.good c.requires.running in
-    omega (arith, good.unit, proper.fits)
+    unit_in_bank c.args.k.now c.args.self.now c.args.run.now c.requires.good c.requires.running
 
 pub unreachable-requires : goal.unreachable-requires
 unreachable-requires c =

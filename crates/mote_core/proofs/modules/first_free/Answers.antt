@@ -2,7 +2,7 @@ use Rattle.std.proofs.Common.{◌≡◌, ◌∙◌, sym, ap, subst, inl, inr, ar
 use Rattle.std.proofs.lemmas.Bool.{cases_eq}
 use Rattle.domain_model.specs.Turn.{in_use}
 use Rattle.mote_core.proofs.Least.{least_of-at, least_of-none}
-use Rattle.mote_core.proofs.kernel_call.first_free.Goals as goal
+use Rattle.mote_core.proofs.modules.first_free.Goals as goal
 
 pub returns-then-not-in_use : goal.returns-then-not-in_use
 returns-then-not-in_use c =
