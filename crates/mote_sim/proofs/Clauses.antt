@@ -1,21 +1,42 @@
 -- The clauses of the top call, each from what its ending says.
-use Rattle.std.proofs.Common.{◌≡◌, ◌⊎◌, inl, inr, ℕ, refl, subst, Bool, List, Option, Some, None}
+use Rattle.std.proofs.Common.{◌≡◌, ◌⊎◌, inl, inr, ℕ, refl, subst, Bool, List, ◌++◌, Option, Some, None}
 use Rattle.mote_base.specs.Causes.{Rose}
 use Rattle.mote_base.specs.Files.{Named}
 use Rattle.mote_base.specs.Written.{Grows}
 use Rattle.mote_base.specs.declared.fault.Status.{Status}
 use Rattle.mote_base.specs.declared.fault.Status.TheVariants.{Done, Usage, Refused, ReadFault, WriteFault, NoMemory}
+use Rattle.domain_model.specs.declared.request.Kind.TheVariants.{Run, Listing}
 use Rattle.domain_model.specs.Command.{Command}
-use Rattle.mote_sim.specs.Clauses.{WritesRun, Refuses, HasStatus, WritesFront}
+use Rattle.mote_sim.specs.Clauses.{WritesRun, WritesListing, Refuses, HasStatus, WritesFront}
 use Rattle.mote_sim.specs.Ending.{Ends, Answered, CutOff, IsAnswer}
-use Rattle.mote_sim.specs.Outcome.{outcome, AnswersOver, usage_line}
+use Rattle.mote_sim.specs.Outcome.{outcome, Answers, AnswersOver, usage_line}
 use Rattle.mote_sim.proofs.Counts.{HasItsFiles}
-use Rattle.mote_sim.proofs.Inversion.{over_told, writes_run, usage_answers, refuses, has_status}
+use Rattle.mote_sim.proofs.Inversion.{over_told, writes_run, writes_listing, usage_answers, refuses, has_status}
 
-pub headline : {K : Type 0} (w : K → Option (List ℕ)) (f : K → ℕ) (l : K → List ℕ → Bool → K → Type 0) (a b : K) (m n : ℕ) (files : Option (List Named)) (command : Option Command) (s : Status) → ((c : Command) → command ≡ Some c → HasItsFiles c) → Ends w f l a b m n (AnswersOver files command) s → s ≡ Done → (fs : List Named) (before : List ℕ) → files ≡ Some fs → w a ≡ Some before → WritesRun command fs before (w b)
-headline w f l a b m n files command s few ends is fs before told known =
+-- What Done says where the shelf tells its files and the sink its bytes.
+record IsDone (command : Option Command) (fs : List Named) (before : List ℕ) (new : Option (List ℕ)) : Type 0 where
+  pub text : List ℕ
+  pub answer : Answers (outcome command fs) Done text
+  pub written : new ≡ Some (before ++ text)
+
+done : {K : Type 0} (w : K → Option (List ℕ)) (f : K → ℕ) (l : K → List ℕ → Bool → K → Type 0) (a b : K) (m n : ℕ) (files : Option (List Named)) (command : Option Command) (s : Status) → Ends w f l a b m n (AnswersOver files command) s → s ≡ Done → (fs : List Named) (before : List ℕ) → files ≡ Some fs → w a ≡ Some before → IsDone command fs before (w b)
+done w f l a b m n files command s ends is fs before told known =
     let e = subst (λ r. Ends w f l a b m n (AnswersOver files command) r) is ends in
-    writes_run command fs e.text before (w b) few (over_told files command fs Done e.text told e.answer) (e.wrote.grows before known)
+    record {
+      text = e.text;
+      answer = over_told files command fs Done e.text told e.answer;
+      written = e.wrote.grows before known;
+    }
+
+pub headline : {K : Type 0} (w : K → Option (List ℕ)) (f : K → ℕ) (l : K → List ℕ → Bool → K → Type 0) (a b : K) (m n : ℕ) (files : Option (List Named)) (command : Option Command) (s : Status) → ((c : Command) → command ≡ Some c → HasItsFiles c) → Ends w f l a b m n (AnswersOver files command) s → s ≡ Done → (names : List (List ℕ)) (fs : List Named) (before : List ℕ) → command ≡ Some (record { kind = Run; files = names }) → files ≡ Some fs → w a ≡ Some before → WritesRun names fs before (w b)
+headline w f l a b m n files command s few ends is names fs before asks told known =
+    let e = done w f l a b m n files command s ends is fs before told known in
+    writes_run fs names e.text before (w b) (few _ asks) (subst (λ c. Answers (outcome c fs) Done e.text) asks e.answer) e.written
+
+pub listing : {K : Type 0} (w : K → Option (List ℕ)) (f : K → ℕ) (l : K → List ℕ → Bool → K → Type 0) (a b : K) (m n : ℕ) (files : Option (List Named)) (command : Option Command) (s : Status) → ((c : Command) → command ≡ Some c → HasItsFiles c) → Ends w f l a b m n (AnswersOver files command) s → s ≡ Done → (names : List (List ℕ)) (fs : List Named) (before : List ℕ) → command ≡ Some (record { kind = Listing; files = names }) → files ≡ Some fs → w a ≡ Some before → WritesListing names fs before (w b)
+listing w f l a b m n files command s few ends is names fs before asks told known =
+    let e = done w f l a b m n files command s ends is fs before told known in
+    writes_listing fs names e.text before (w b) (few _ asks) (subst (λ c. Answers (outcome c fs) Done e.text) asks e.answer) e.written
 
 pub usage : {K : Type 0} (w : K → Option (List ℕ)) (f : K → ℕ) (l : K → List ℕ → Bool → K → Type 0) (a b : K) (m n : ℕ) (files : Option (List Named)) (command : Option Command) (s : Status) → Ends w f l a b m n (AnswersOver files command) s → s ≡ Usage → (command ≡ None) × Grows (w a) (w b) usage_line
 usage w f l a b m n files command s ends is =

@@ -2,9 +2,9 @@
 use Rattle.std.proofs.Common.{◌≡◌, ℕ, ◌≤◌, suc, refl, subst, arith, Bool, true, false, if◌then◌else◌, List, [], ◌∷◌, length, Option, Some, None}
 use Rattle.std.specs.Prelude.{IsTrue, nat_le}
 use Rattle.std.specs.List.{list_any}
-use Rattle.std.proofs.lemmas.Bool.{leb-true}
+use Rattle.std.proofs.lemmas.Bool.{leb-true, eqb-true}
 use Rattle.domain_model.specs.declared.request.Kind.{Kind}
-use Rattle.domain_model.specs.declared.request.Kind.TheVariants.{Run}
+use Rattle.domain_model.specs.declared.request.Kind.TheVariants.{Run, Listing}
 use Rattle.domain_model.specs.Command.{Command, takes, is_option, kind_of, with_files, command_of}
 use Rattle.mote_sim.proofs.Images.{both_true}
 
@@ -36,3 +36,7 @@ one_at_least n is = let low = leb-true 2 (suc n) (both_true (nat_le 2 (suc n)) (
 
 pub most_64 : (n : ℕ) → IsTrue (takes Run (suc n)) → n ≤ 64
 most_64 n is = let high = leb-true (suc n) 65 (both_true (nat_le 2 (suc n)) (nat_le (suc n) 65) is).1 in omega (arith, high)
+
+-- A listing has no second image.
+pub one_alone : (n : ℕ) → IsTrue (takes Listing (suc (suc n))) → ⊥
+one_alone n is = let e = eqb-true (suc (suc n)) 1 is in absurd (omega (arith, e))

@@ -1,23 +1,30 @@
 -- What an answer says of the files and of the words.
-use Rattle.std.proofs.Common.{◌≡◌, ◌∙◌, ℕ, zero, suc, ◌+◌, ◌≤◌, refl, sym, ap, subst, arith, Bool, true, false, nat_lt, if◌then◌else◌, List, [], ◌∷◌, ◌++◌, length, Option, Some, None}
+use Rattle.std.proofs.Common.{◌≡◌, ◌∙◌, ℕ, zero, suc, ◌+◌, ◌≤◌, refl, sym, ap, subst, arith, Bool, true, false, nat_lt, if◌then◌else◌, List, [], ◌∷◌, ◌++◌, length, Option, Some, None, Result, Ok, Err}
 use Rattle.std.proofs.Math.Dec.{eqb-suc-zero}
 use Rattle.std.proofs.lemmas.Bool.{ltb-false}
 use Rattle.mote_base.specs.Files.{Named, held}
 use Rattle.mote_base.specs.Written.{Grows}
 use Rattle.mote_base.specs.declared.fault.Status.{Status}
 use Rattle.mote_base.specs.declared.fault.Status.TheVariants.{Done, Usage, Refused}
+use Rattle.unit_code.specs.declared.error.CodeError.{CodeError}
+use Rattle.unit_code.specs.Units.{refusal, listed}
+use Rattle.module_image.specs.declared.error.ImageError.{ImageError}
+use Rattle.module_image.specs.Contents.{Contents}
+use Rattle.module_image.specs.Reading.{image_of}
 use Rattle.domain_model.specs.declared.event.Event.{Event}
 use Rattle.domain_model.specs.declared.request.Kind.{Kind}
-use Rattle.domain_model.specs.declared.request.Kind.TheVariants.{Run}
+use Rattle.domain_model.specs.declared.request.Kind.TheVariants.{Run, Listing}
 use Rattle.domain_model.specs.Command.{Command, limit_of}
+use Rattle.domain_model.specs.Prepared.{marks_of}
 use Rattle.domain_model.specs.Script.{events_of}
 use Rattle.domain_model.specs.State.{Input}
-use Rattle.mote_sim.specs.Clauses.{AreImages, WritesRun, Refuses, HasStatus}
-use Rattle.mote_sim.specs.Outcome.{Outcome, NoCommand, Unheld, TooLong, Unbuilt, Runs, outcome, outcome_of, outcome_by, outcome_with, Answers, MayFind, AnswersOver, usage_line}
+use Rattle.mote_sim.specs.Clauses.{AreImages, WritesRun, WritesListing, Refuses, HasStatus}
+use Rattle.mote_sim.specs.Listing.{listing_text}
+use Rattle.mote_sim.specs.Outcome.{Outcome, NoCommand, Unheld, TooLong, Unbuilt, Runs, BadImage, BadCode, Lists, outcome, outcome_of, outcome_by, outcome_with, outcome_of_code, outcome_of_contents, outcome_of_image, Answers, MayFind, AnswersOver, usage_line}
 use Rattle.mote_sim.specs.Reading.{Gathered, Whole, Longer, Missing, gathered_from, gathered_file, with_first}
-use Rattle.mote_sim.specs.Trace.{IsTraceOf, run_input, are_loadable, input_with, input_of}
-use Rattle.mote_sim.proofs.Counts.{HasItsFiles, one_at_least, most_64}
-use Rattle.mote_sim.proofs.Images.{each_loadable}
+use Rattle.mote_sim.specs.Trace.{IsTraceOf, run_input, are_built, input_with, input_of}
+use Rattle.mote_sim.proofs.Counts.{HasItsFiles, one_at_least, most_64, one_alone}
+use Rattle.mote_sim.proofs.Images.{each_built}
 
 -- Where the shelf tells its files, what answers over the shelf answers for them.
 found_is : (files : Option (List Named)) (command : Option Command) (fs : List Named) (found : Outcome) → files ≡ Some fs → MayFind files command found → found ≡ outcome command fs
@@ -51,15 +58,15 @@ first_of number limit None others files e = absurd (cc)
 first_of number limit (Some bytes) others files e = first_within (nat_lt limit (length bytes)) number limit bytes others files refl e
 
 -- Files that are answered by Done are all whole.
-record AllWhole (found : Gathered) (text : List ℕ) : Type 0 where
+record AllWhole (kind : Kind) (found : Gathered) (text : List ℕ) : Type 0 where
   pub files : List (List ℕ)
   pub is : found ≡ Whole files
-  pub answer : Answers (outcome_by Run files) Done text
+  pub answer : Answers (outcome_by kind files) Done text
 
-all_whole : (found : Gathered) (text : List ℕ) → Answers (outcome_of Run found) Done text → AllWhole found text
-all_whole (Whole files) text a = record { files = files; is = refl; answer = a }
-all_whole (Longer n) text a = let e : Done ≡ Refused = a.0 in absurd (cc)
-all_whole Missing text a = absurd a
+all_whole : (kind : Kind) (found : Gathered) (text : List ℕ) → Answers (outcome_of kind found) Done text → AllWhole kind found text
+all_whole kind (Whole files) text a = record { files = files; is = refl; answer = a }
+all_whole kind (Longer n) text a = let e : Done ≡ Refused = a.0 in absurd (cc)
+all_whole kind Missing text a = absurd a
 
 -- What files other than the first come to: they are images within their limit.
 image_limit : (number : ℕ) → 1 ≤ number → limit_of Run number ≡ limit_of Run 1
@@ -76,31 +83,31 @@ images_whole number fs (name ∷ names) files low e =
     (one.held, subst (λ limit. length one.bytes ≤ limit) (image_limit number low) one.fits, others)
 
 -- An input that is run is built.
-record Built (images : List (List ℕ)) (events : Option (List Event)) (loadable : Bool) (text : List ℕ) : Type 0 where
+record Built (images : List (List ℕ)) (events : Option (List Event)) (built : Bool) (text : List ℕ) : Type 0 where
   pub list : List Event
   pub events_are : events ≡ Some list
-  pub all : loadable ≡ true
+  pub all : built ≡ true
   pub trace : IsTraceOf (run_input images list) text
 
-built : (images : List (List ℕ)) (events : Option (List Event)) (loadable : Bool) (text : List ℕ) → Answers (outcome_with (input_with images events loadable)) Done text → Built images events loadable text
-built images None loadable text a = let e : Done ≡ Refused = a.0 in absurd (cc)
+built : (images : List (List ℕ)) (events : Option (List Event)) (all : Bool) (text : List ℕ) → Answers (outcome_with (input_with images events all)) Done text → Built images events all text
+built images None all text a = let e : Done ≡ Refused = a.0 in absurd (cc)
 built images (Some list) false text a = let e : Done ≡ Refused = a.0 in absurd (cc)
 built images (Some list) true text a = record { list = list; events_are = refl; all = refl; trace = a.1 }
 
-built_from : (files images : List (List ℕ)) (script text : List ℕ) → files ≡ script ∷ images → Answers (outcome_by Run files) Done text → Built images (events_of script (length images)) (are_loadable images) text
+built_from : (files images : List (List ℕ)) (script text : List ℕ) → files ≡ script ∷ images → Answers (outcome_by Run files) Done text → Built images (events_of script (length images)) (are_built images) text
 built_from files images script text is a =
-    built images (events_of script (length images)) (are_loadable images) text (subst (λ xs. Answers (outcome_by Run xs) Done text) is a)
+    built images (events_of script (length images)) (are_built images) text (subst (λ xs. Answers (outcome_by Run xs) Done text) is a)
 
-run_of : (fs : List Named) (names : List (List ℕ)) (text before : List ℕ) (new : Option (List ℕ)) → HasItsFiles (record { kind = Run; files = names }) → Answers (outcome_of Run (gathered_from Run 0 fs names)) Done text → new ≡ Some (before ++ text) → WritesRun (Some (record { kind = Run; files = names })) fs before new
-run_of fs [] text before new few a written = absurd a
-run_of fs (s ∷ names) text before new few a written =
-    let w = all_whole (gathered_from Run 0 fs (s ∷ names)) text a in
+pub writes_run : (fs : List Named) (names : List (List ℕ)) (text before : List ℕ) (new : Option (List ℕ)) → HasItsFiles (record { kind = Run; files = names }) → Answers (outcome_of Run (gathered_from Run 0 fs names)) Done text → new ≡ Some (before ++ text) → WritesRun names fs before new
+writes_run fs [] text before new few a written = absurd a
+writes_run fs (s ∷ names) text before new few a written =
+    let w = all_whole Run (gathered_from Run 0 fs (s ∷ names)) text a in
     let one = first_of 0 (limit_of Run 0) (held fs s) (gathered_from Run 1 fs names) w.files w.is in
     let b = built_from w.files one.rest one.bytes text one.files_are w.answer in
     record {
       script_name = s;
       image_names = names;
-      command_is = refl;
+      named = refl;
       least = one_at_least (length names) few;
       most = most_64 (length names) few;
       script = one.bytes;
@@ -110,18 +117,65 @@ run_of fs (s ∷ names) text before new few a written =
       images_are = images_whole 1 fs names one.rest (omega arith) one.others_are;
       events = b.list;
       events_are = b.events_are;
-      loadable = each_loadable one.rest b.all;
+      built = each_built one.rest b.all;
       lines = b.trace.lines;
       run = b.trace.run;
       written = written ∙ ap (λ t. Some (before ++ t)) b.trace.spelled;
     }
 
-of_kind : (kind : Kind) (fs : List Named) (names : List (List ℕ)) (text before : List ℕ) (new : Option (List ℕ)) → HasItsFiles (record { kind = kind; files = names }) → Answers (outcome_of kind (gathered_from kind 0 fs names)) Done text → new ≡ Some (before ++ text) → WritesRun (Some (record { kind = kind; files = names })) fs before new
-of_kind Run fs names text before new few a written = run_of fs names text before new few a written
+-- Code whose units are listed is not refused.
+record Accepted (c : Contents) (refused : Option CodeError) (text : List ℕ) : Type 0 where
+  pub none : refused ≡ None
+  pub is : text ≡ listing_text (listed c.code (marks_of c))
 
-pub writes_run : (command : Option Command) (fs : List Named) (text before : List ℕ) (new : Option (List ℕ)) → ((c : Command) → command ≡ Some c → HasItsFiles c) → Answers (outcome command fs) Done text → new ≡ Some (before ++ text) → WritesRun command fs before new
-writes_run None fs text before new few a written = let e : Done ≡ Usage = a.0 in absurd (cc)
-writes_run (Some c) fs text before new few a written = of_kind c.kind fs c.files text before new (few c refl) a written
+accepted : (c : Contents) (refused : Option CodeError) (text : List ℕ) → Answers (outcome_of_code c refused) Done text → Accepted c refused text
+accepted c (Some error) text a = let e : Done ≡ Refused = a.0 in absurd (cc)
+accepted c None text a = record { none = refl; is = a.1 }
+
+record Original (rewritten : Bool) (c : Contents) (text : List ℕ) : Type 0 where
+  pub is : rewritten ≡ false
+  pub code : Accepted c (refusal c.code (marks_of c)) text
+
+original : (rewritten : Bool) (c : Contents) (text : List ℕ) → Answers (outcome_of_contents rewritten c) Done text → Original rewritten c text
+original true c text a = let e : Done ≡ Refused = a.0 in absurd (cc)
+original false c text a = record { is = refl; code = accepted c (refusal c.code (marks_of c)) text a }
+
+record Image (read : Result Contents ImageError) (text : List ℕ) : Type 0 where
+  pub contents : Contents
+  pub is : read ≡ Ok contents
+  pub original : Original contents.rewritten contents text
+
+image : (read : Result Contents ImageError) (text : List ℕ) → Answers (outcome_of_image read) Done text → Image read text
+image (Err error) text a = let e : Done ≡ Refused = a.0 in absurd (cc)
+image (Ok c) text a = record { contents = c; is = refl; original = original c.rewritten c text a }
+
+image_from : (files rest : List (List ℕ)) (bytes text : List ℕ) → files ≡ bytes ∷ rest → Whole [] ≡ Whole rest → Answers (outcome_by Listing files) Done text → Image (image_of bytes) text
+image_from files rest bytes text is none a =
+    let alone : files ≡ bytes ∷ [] = cc in
+    image (image_of bytes) text (subst (λ xs. Answers (outcome_by Listing xs) Done text) alone a)
+
+-- The one file holds the image.
+listing_of : (fs : List Named) (name text before : List ℕ) (new : Option (List ℕ)) (bytes : List ℕ) → held fs name ≡ Some bytes → length bytes ≤ limit_of Listing 0 → Image (image_of bytes) text → new ≡ Some (before ++ text) → WritesListing (name ∷ []) fs before new
+listing_of fs name text before new bytes holds fits i written = record {
+  image_name = name;
+  named = refl;
+  image = bytes;
+  image_held = holds;
+  image_fits = fits;
+  contents = i.contents;
+  contents_are = i.is;
+  original = i.original.is;
+  accepted = i.original.code.none;
+  written = written ∙ ap (λ t. Some (before ++ t)) i.original.code.is;
+}
+
+pub writes_listing : (fs : List Named) (names : List (List ℕ)) (text before : List ℕ) (new : Option (List ℕ)) → HasItsFiles (record { kind = Listing; files = names }) → Answers (outcome_of Listing (gathered_from Listing 0 fs names)) Done text → new ≡ Some (before ++ text) → WritesListing names fs before new
+writes_listing fs [] text before new few a written = absurd a
+writes_listing fs (name ∷ []) text before new few a written =
+    let w = all_whole Listing (gathered_from Listing 0 fs (name ∷ [])) text a in
+    let one = first_of 0 (limit_of Listing 0) (held fs name) (Whole []) w.files w.is in
+    listing_of fs name text before new one.bytes one.held one.fits (image_from w.files one.rest one.bytes text one.files_are one.others_are w.answer) written
+writes_listing fs (name ∷ other ∷ names) text before new few a written = absurd (one_alone (length names) few)
 
 -- Usage answers no command alone.
 usage_outcome : (found : Outcome) (text : List ℕ) → Answers found Usage text → (found ≡ NoCommand) × (text ≡ usage_line)
@@ -130,14 +184,32 @@ usage_outcome Unheld text a = absurd a
 usage_outcome (TooLong n) text a = let e : Usage ≡ Refused = a.0 in absurd (cc)
 usage_outcome Unbuilt text a = let e : Usage ≡ Refused = a.0 in absurd (cc)
 usage_outcome (Runs i) text a = let e : Usage ≡ Done = a.0 in absurd (cc)
+usage_outcome (BadImage error) text a = let e : Usage ≡ Refused = a.0 in absurd (cc)
+usage_outcome (BadCode error) text a = let e : Usage ≡ Refused = a.0 in absurd (cc)
+usage_outcome (Lists l) text a = let e : Usage ≡ Done = a.0 in absurd (cc)
 
 with_is_command : (i : Option Input) → outcome_with i ≡ NoCommand → ⊥
 with_is_command None e = cc
 with_is_command (Some i) e = cc
 
+code_is_command : (c : Contents) (refused : Option CodeError) → outcome_of_code c refused ≡ NoCommand → ⊥
+code_is_command c (Some error) e = cc
+code_is_command c None e = cc
+
+contents_is_command : (rewritten : Bool) (c : Contents) → outcome_of_contents rewritten c ≡ NoCommand → ⊥
+contents_is_command true c e = cc
+contents_is_command false c e = code_is_command c (refusal c.code (marks_of c)) e
+
+image_is_command : (read : Result Contents ImageError) → outcome_of_image read ≡ NoCommand → ⊥
+image_is_command (Err error) e = cc
+image_is_command (Ok c) e = contents_is_command c.rewritten c e
+
 by_is_command : (kind : Kind) (files : List (List ℕ)) → outcome_by kind files ≡ NoCommand → ⊥
 by_is_command Run [] e = cc
 by_is_command Run (script ∷ images) e = with_is_command (input_of script images) e
+by_is_command Listing [] e = cc
+by_is_command Listing (file ∷ []) e = image_is_command (image_of file) e
+by_is_command Listing (file ∷ other ∷ files) e = cc
 
 is_command : (kind : Kind) (found : Gathered) → outcome_of kind found ≡ NoCommand → ⊥
 is_command kind (Whole files) e = by_is_command kind files e
@@ -159,6 +231,9 @@ refuses Unheld text old new a grows = absurd a
 refuses (TooLong n) text old new a grows = subst (λ t. Grows old new t) a.1 grows
 refuses Unbuilt text old new a grows = subst (λ t. Grows old new t) a.1 grows
 refuses (Runs i) text old new a grows = let e : Refused ≡ Done = a.0 in absurd (cc)
+refuses (BadImage error) text old new a grows = subst (λ t. Grows old new t) a.1 grows
+refuses (BadCode error) text old new a grows = subst (λ t. Grows old new t) a.1 grows
+refuses (Lists l) text old new a grows = let e : Refused ≡ Done = a.0 in absurd (cc)
 
 -- Each answer has the status of its outcome.
 pub has_status : (found : Outcome) (s : Status) (text : List ℕ) → Answers found s text → HasStatus found s
@@ -167,3 +242,6 @@ has_status Unheld s text a = a
 has_status (TooLong n) s text a = a.0
 has_status Unbuilt s text a = a.0
 has_status (Runs i) s text a = a.0
+has_status (BadImage error) s text a = a.0
+has_status (BadCode error) s text a = a.0
+has_status (Lists l) s text a = a.0

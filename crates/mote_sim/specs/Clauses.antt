@@ -1,18 +1,22 @@
 -- What the clauses of the top call say.
-use Rattle.std.specs.Prelude.{◌≡◌, ℕ, ◌≤◌, List, [], ◌∷◌, ◌++◌, length, Option, Some, IsSome, ⊤}
+use Rattle.std.specs.Prelude.{◌≡◌, ℕ, ◌≤◌, false, List, [], ◌∷◌, ◌++◌, length, Option, Some, None, IsSome, Ok, ⊤}
 use Rattle.std.specs.List.{AllByRecursion}
 use Rattle.mote_base.specs.Files.{Named, held}
 use Rattle.mote_base.specs.Written.{Grows, IsStartOf}
 use Rattle.mote_base.specs.declared.fault.Status.{Status}
 use Rattle.mote_base.specs.declared.fault.Status.TheVariants as status
+use Rattle.unit_code.specs.Units.{refusal, listed}
+use Rattle.module_image.specs.Contents.{Contents}
+use Rattle.module_image.specs.Reading.{image_of}
 use Rattle.domain_model.specs.declared.event.Event.{Event}
 use Rattle.domain_model.specs.declared.line.TraceLine.{TraceLine}
-use Rattle.domain_model.specs.declared.request.Kind.TheVariants as kind
-use Rattle.domain_model.specs.Command.{Command, limit_of}
-use Rattle.domain_model.specs.Image.{prepared}
+use Rattle.domain_model.specs.declared.request.Kind.TheVariants as kinds
+use Rattle.domain_model.specs.Command.{limit_of}
+use Rattle.domain_model.specs.Prepared.{marks_of, prepared}
 use Rattle.domain_model.specs.Script.{events_of}
 use Rattle.domain_model.specs.Text.{texts}
-use Rattle.mote_sim.specs.Outcome.{Outcome, NoCommand, Unheld, TooLong, Unbuilt, Runs, Answers, size_line, unbuilt_line}
+use Rattle.mote_sim.specs.Listing.{listing_text}
+use Rattle.mote_sim.specs.Outcome.{Outcome, NoCommand, Unheld, TooLong, Unbuilt, Runs, BadImage, BadCode, Lists, Answers, size_line, unbuilt_line, image_line, code_line}
 use Rattle.mote_sim.specs.Trace.{IsLawfulRun, run_input}
 
 -- These are the bytes of the images of these names: each image is held, and within the limit of an image.
@@ -21,28 +25,41 @@ AreImages files [] [] = ⊤
 AreImages files [] (image ∷ images) = ⊥
 AreImages files (name ∷ names) [] = ⊥
 AreImages files (name ∷ names) (image ∷ images) =
-    (held files name ≡ Some image) × (length image ≤ limit_of kind.Run 1) × AreImages files names images
+    (held files name ≡ Some image) × (length image ≤ limit_of kinds.Run 1) × AreImages files names images
 
--- The words are `run` with a script and 1 to 64 images. Each file was read whole and is within its limit, the
--- script has events, each image can be loaded, and the bytes that were added are the text of a lawful run of
--- them.
-pub record WritesRun (command : Option Command) (files : List Named) (before : List ℕ) (new : Option (List ℕ)) : Type 0 where
+-- The files of `run` are a script and 1 to 64 images. Each was read whole and is within its limit, the script
+-- has events, each image is built, and the bytes that were added are the text of a lawful run of them.
+pub record WritesRun (names : List (List ℕ)) (files : List Named) (before : List ℕ) (new : Option (List ℕ)) : Type 0 where
   pub script_name : List ℕ
   pub image_names : List (List ℕ)
-  pub command_is : command ≡ Some (record { kind = kind.Run; files = script_name ∷ image_names })
+  pub named : names ≡ script_name ∷ image_names
   pub least : 1 ≤ length image_names
   pub most : length image_names ≤ 64
   pub script : List ℕ
   pub script_held : held files script_name ≡ Some script
-  pub script_fits : length script ≤ limit_of kind.Run 0
+  pub script_fits : length script ≤ limit_of kinds.Run 0
   pub images : List (List ℕ)
   pub images_are : AreImages files image_names images
   pub events : List Event
   pub events_are : events_of script (length images) ≡ Some events
-  pub loadable : AllByRecursion (λ image. IsSome (prepared image)) images
+  pub built : AllByRecursion (λ image. IsSome (prepared image)) images
   pub lines : List TraceLine
   pub run : IsLawfulRun (run_input images events) lines
   pub written : new ≡ Some (before ++ texts lines)
+
+-- The file of `list` is one image. It was read whole and is within its limit, the image is no rewriter's and its
+-- code is not refused, and the bytes that were added are the lines of its units.
+pub record WritesListing (names : List (List ℕ)) (files : List Named) (before : List ℕ) (new : Option (List ℕ)) : Type 0 where
+  pub image_name : List ℕ
+  pub named : names ≡ image_name ∷ []
+  pub image : List ℕ
+  pub image_held : held files image_name ≡ Some image
+  pub image_fits : length image ≤ limit_of kinds.Listing 0
+  pub contents : Contents
+  pub contents_are : image_of image ≡ Ok contents
+  pub original : contents.rewritten ≡ false
+  pub accepted : refusal contents.code (marks_of contents) ≡ None
+  pub written : new ≡ Some (before ++ listing_text (listed contents.code (marks_of contents)))
 
 -- Why the command refuses its files, and the line that says so.
 abbrev pub Refuses : Outcome → Option (List ℕ) → Option (List ℕ) → Type 0
@@ -51,6 +68,9 @@ Refuses Unheld old new = ⊥
 Refuses (TooLong number) old new = Grows old new (size_line number)
 Refuses Unbuilt old new = Grows old new unbuilt_line
 Refuses (Runs i) old new = ⊥
+Refuses (BadImage e) old new = Grows old new (image_line e)
+Refuses (BadCode e) old new = Grows old new (code_line e)
+Refuses (Lists l) old new = ⊥
 
 -- The status that answers where no call fails and memory is left. No status does where a file isn't held,
 -- for then a call of the shelf fails.
@@ -60,6 +80,9 @@ HasStatus Unheld s = ⊥
 HasStatus (TooLong number) s = s ≡ status.Refused
 HasStatus Unbuilt s = s ≡ status.Refused
 HasStatus (Runs i) s = s ≡ status.Done
+HasStatus (BadImage e) s = s ≡ status.Refused
+HasStatus (BadCode e) s = s ≡ status.Refused
+HasStatus (Lists l) s = s ≡ status.Done
 
 -- A front of an output that answers was added.
 pub record WritesFront (found : Outcome) (before : List ℕ) (new : Option (List ℕ)) : Type 0 where

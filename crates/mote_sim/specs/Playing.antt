@@ -5,11 +5,11 @@ use Rattle.std.specs.declared.alloc.Global.{Global}
 use Rattle.mote_base.specs.Written.{Wrote, Broke}
 use Rattle.domain_model.specs.declared.line.TraceLine.{TraceLine}
 use Rattle.domain_model.specs.Good.{Good, IsGoodImage}
-use Rattle.domain_model.specs.Image.{Module, prepared}
 use Rattle.domain_model.specs.Laws.{LawfulRunFrom}
+use Rattle.domain_model.specs.Prepared.{Prep, prepared}
 use Rattle.domain_model.specs.State.{State, Input, start}
 use Rattle.domain_model.specs.Text.{texts}
-use Rattle.mote_sim.specs.Trace.{are_loadable}
+use Rattle.mote_sim.specs.Trace.{are_built}
 
 -- The lines of a lawful run from that state were put.
 pub record Played {K : Type 0} (written : K → Option (List ℕ)) (faults : K → ℕ) (leads : K → List ℕ → Bool → K → Type 0) (old new : K) (first : State) : Type 0 where
@@ -27,11 +27,11 @@ pub record Plays {K T E : Type 0} (written : K → Option (List ℕ)) (faults : 
   pub played : OnOk result (Played written faults leads old new first)
   pub stopped : OnErr result (Stopped written faults leads old new first)
 
--- The images of these bytes are ready exactly where each of them can be loaded.
-abbrev pub AreReady : Option (Vec (Option Module) Global) → List (List ℕ) → Type 0
-AreReady None images = are_loadable images ≡ false
+-- The images of these bytes are ready exactly where each of them is built.
+abbrev pub AreReady : Option (Vec (Option Prep) Global) → List (List ℕ) → Type 0
+AreReady None images = are_built images ≡ false
 AreReady (Some ready) images =
-    (are_loadable images ≡ true) × (ready.items ≡ map prepared images) × AllByRecursion IsGoodImage ready.items
+    (are_built images ≡ true) × (ready.items ≡ map prepared images) × AllByRecursion IsGoodImage ready.items
 
 -- There is a mote exactly where there is an input, and it stands at the start of a run of it.
 abbrev pub StandsAt : Option State → Option Input → Type 0

@@ -4,8 +4,8 @@ use Rattle.std.specs.List.{list_all}
 use Rattle.mote_layout.specs.Limits.{default_units, default_handler_units}
 use Rattle.domain_model.specs.declared.event.Event.{Event}
 use Rattle.domain_model.specs.declared.line.TraceLine.{TraceLine}
-use Rattle.domain_model.specs.Image.{prepared}
 use Rattle.domain_model.specs.Laws.{LawfulRunFrom}
+use Rattle.domain_model.specs.Prepared.{prepared}
 use Rattle.domain_model.specs.Script.{events_of}
 use Rattle.domain_model.specs.State.{Input}
 use Rattle.domain_model.specs.Text.{texts}
@@ -16,19 +16,19 @@ abbrev pub run_input : List (List ℕ) → List Event → Input
 run_input images events =
     record { images = images; events = events; unit_limit = default_units; handler_limit = default_handler_units }
 
--- each image can be loaded
-abbrev pub are_loadable : List (List ℕ) → Bool
-are_loadable images = list_all (λ image. is_some (prepared image)) images
+-- Each image is built: it holds a module that can run, or what is refused at each load.
+abbrev pub are_built : List (List ℕ) → Bool
+are_built images = list_all (λ image. is_some (prepared image)) images
 
 abbrev pub input_with : List (List ℕ) → Option (List Event) → Bool → Option Input
-input_with images None loadable = None
+input_with images None built = None
 input_with images (Some events) false = None
 input_with images (Some events) true = Some (run_input images events)
 
 -- The input that the bytes of a script and of its images make, where all of them are built. The script loads
 -- images by their numbers, so how many there are decides which of its lines are events.
 abbrev pub input_of : List ℕ → List (List ℕ) → Option Input
-input_of script images = input_with images (events_of script (length images)) (are_loadable images)
+input_of script images = input_with images (events_of script (length images)) (are_built images)
 
 -- The lines of a run of the machine, of which each turn is lawful.
 pub record IsLawfulRun (i : Input) (lines : List TraceLine) : Type 0 where

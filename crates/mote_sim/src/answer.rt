@@ -4,55 +4,32 @@ ghost use Rattle.mote_base.specs.Causes.{Rose};
 ghost use Rattle.mote_base.specs.Files.{Named};
 ghost use Rattle.mote_base.specs.Written.{Grows};
 ghost use Rattle.domain_model.specs.Command.{command_of, takes};
-ghost use Rattle.mote_sim.specs.Clauses.{WritesRun, Refuses, HasStatus, WritesFront};
+ghost use Rattle.mote_sim.specs.Clauses.{WritesRun, WritesListing, Refuses, HasStatus, WritesFront};
 ghost use Rattle.mote_sim.specs.Ending.{Ends, IsAnswer, Answered, CutOff};
-ghost use Rattle.mote_sim.specs.Outcome.{NoCommand, TooLong, Unbuilt, Answers, AnswersOver, outcome, outcome_by, outcome_with, usage_line, size_line};
+ghost use Rattle.mote_sim.specs.Outcome.{Answers, AnswersOver, outcome, outcome_by, outcome_with, usage_line};
 ghost use Rattle.mote_sim.specs.Playing.{AreReady, StandsAt};
 ghost use Rattle.mote_sim.specs.Reading.{Admits, AdmitsEach, bytes_of};
 ghost use Rattle.mote_sim.specs.Trace.{input_of};
 
+use crate::listing::list;
+use crate::one_line::{put_answer, put_size};
 use crate::play::play;
 use crate::reading::{ReadStop, read_files};
 use crate::request::{Request, request_of};
-use crate::trace_text::{add_number, add_text};
-use arrayvec::ArrayVec;
 use domain_model::{Kind, Lines};
-use mote_base::{Line, NoMemory, Shelf, Sink, Status, Word};
+use mote_base::{NoMemory, Shelf, Sink, Status, Word};
 use mote_core::{Limits, Mote, Ready, parse_script};
 use mote_layout::{DEFAULT_HANDLER_UNITS, DEFAULT_UNITS};
 use std::alloc::Global;
 
-// Puts a line that is the whole output.
-fn put_answer<K: Sink>(out: &mut K, line: &[u8], status: Status) -> Status
-    requires { IsAnswer status }
-    ensures ends { Ends K.written K.faults K.leads out.old out.new 0 0 (λ s text. (s ≡ status) × (text ≡ line.now)) result }
-    ensures either { (result ≡ status) ⊎ (result ≡ Status.WriteFault) }
-{
-    match out.put(line) {
-        Ok(()) => status,
-        Err(_) => Status::WriteFault,
-    }
-}
-
-// Puts the line on a file that is too long.
-fn put_size<K: Sink>(out: &mut K, number: usize) -> Status
-    ensures { Ends K.written K.faults K.leads out.old out.new 0 0 (Answers (TooLong number)) result }
-{
-    let mut line: Line = ArrayVec::new();
-    add_text(&mut line, b"refused size ");
-    add_number(&mut line, number as u64);
-    add_text(&mut line, b"\n");
-    put_answer(out, line.as_slice(), Status::Refused)
-}
-
-// The images of these files, prepared for their loads, where each of them can be loaded.
+// The images of these files, prepared for their loads, where each of them is built.
 fn prepare_images(alloc: Global, files: &[Vec<u8>]) -> Result<Option<Vec<Ready>>, NoMemory>
     ensures { IfOk result (λ found. AreReady found (bytes_of files.now)) }
 {
     let mut images = Vec::new(alloc);
     for file in files {
         let image = Ready::new(alloc, file)?;
-        if !image.can_be_loaded() {
+        if !image.is_built() {
             return Ok(None);
         }
         images.push(image)?;
@@ -109,6 +86,10 @@ fn perform<K: Sink>(alloc: Global, kind: Kind, files: &[Vec<u8>], out: &mut K) -
             [script, images @ ..] => run(alloc, script, images, out),
             [] => unreachable!(),
         },
+        Kind::Listing => match files {
+            [file] => list(alloc, file, out),
+            _ => unreachable!(),
+        },
     }
 }
 
@@ -149,7 +130,8 @@ fn answer<F: Shelf, K: Sink>(alloc: Global, words: &[Word], shelf: &mut F, out: 
 /// Does all that the program does: reads the words, reads the files that they name, and writes the answer.
 ///
 /// The words are those behind the program's name. `run SCRIPT IMAGE..` runs a script over 1 to 64 images, which
-/// it loads and unloads, and writes the trace. All memory is taken before the first byte is written.
+/// it loads and unloads, and writes the trace. `list IMAGE` writes the units of an image, a line for each. All
+/// memory is taken before the first byte is written.
 pub fn mote_main<F: Shelf, K: Sink>(
     alloc: Global,
     words: &[Word],
@@ -159,16 +141,23 @@ pub fn mote_main<F: Shelf, K: Sink>(
     // The shelf may be asked for the files of the command.
     requires { Admits (F.admits shelf.old) (command_of words.now) }
 
-    // Done: every file was read whole, and the bytes added are the trace of a lawful run of them.
-    ensures headline { result ≡ Status.Done → (fs : List Named) (before : List ℕ) →
+    // Done: every file was read whole. Of `run` the bytes added are the trace of a lawful run of them, and of `list`
+    // they are the lines of the units of the image.
+    ensures headline { result ≡ Status.Done → (names : List (List ℕ)) (fs : List Named) (before : List ℕ) →
+        command_of words.now ≡ Some (record { kind = Kind.Run; files = names }) →
         F.files shelf.old ≡ Some fs → K.written out.old ≡ Some before →
-        WritesRun (command_of words.now) fs before (K.written out.new) }
+        WritesRun names fs before (K.written out.new) }
+    ensures listing { result ≡ Status.Done → (names : List (List ℕ)) (fs : List Named) (before : List ℕ) →
+        command_of words.now ≡ Some (record { kind = Kind.Listing; files = names }) →
+        F.files shelf.old ≡ Some fs → K.written out.old ≡ Some before →
+        WritesListing names fs before (K.written out.new) }
 
     // Usage: the words are no command. No command has another answer, but where the put of its line fails.
     ensures usage { result ≡ Status.Usage → (command_of words.now ≡ None) × Grows (K.written out.old) (K.written out.new) usage_line }
     ensures no_command { command_of words.now ≡ None → (result ≡ Status.Usage) ⊎ (result ≡ Status.WriteFault) }
 
-    // Refused: a file is longer than its limit, or the script or an image is not built.
+    // Refused: a file is longer than its limit, the script or an image is not built, or `list` finds no image or
+    // code that has no units.
     ensures refused { result ≡ Status.Refused → (fs : List Named) → F.files shelf.old ≡ Some fs →
         Refuses (outcome (command_of words.now) fs) (K.written out.old) (K.written out.new) }
 

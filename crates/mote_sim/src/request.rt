@@ -40,17 +40,20 @@ fn kind_of(verb: &Word) -> Option<Kind>
 {
     if verb.text() == "run" {
         Some(Kind::Run)
+    } else if verb.text() == "list" {
+        Some(Kind::Listing)
     } else {
         None
     }
 }
 
-/// Whether a command takes so many files. `run` takes a script and 1 to 64 images.
+/// Whether a command takes so many files: `run` a script and 1 to 64 images, `list` an image.
 fn takes(kind: Kind, count: usize) -> bool
     ensures { result ≡ takes kind count }
 {
     match kind {
         Kind::Run => (2..=65).contains(&count),
+        Kind::Listing => count == 1,
     }
 }
 
@@ -66,6 +69,7 @@ pub fn limit_of(kind: Kind, number: usize) -> usize
                 IMAGE_BYTES
             }
         }
+        Kind::Listing => IMAGE_BYTES,
     }
 }
 

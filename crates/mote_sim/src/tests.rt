@@ -1,8 +1,9 @@
 //! Runs of the top call over files and a sink in memory. Code words stand low byte first.
 
-use crate::mote_main;
-use mote_base::{MemShelf, MemSink, NoMemory, Sink, Status, SureSink, Word};
+use crate::{certain_status, mote_main};
+use mote_base::{MemShelf, MemSink, NoMemory, Sink, Status, SureShelf, SureSink, Word};
 use std::alloc::Global;
+use std::process::Abort;
 use std::test::Fail;
 
 /// Module 1 says byte 65: E481 940E F108 9508.
@@ -10,6 +11,29 @@ const SAYS: &[u8] = b"SOSM\x01\x01\0\0\0\0\0\0\0\x04\0\x81\xE4\x0E\x94\x08\xF1\x
 
 /// Module 1 does nothing first, by an instruction that is not built: 0000 9508.
 const UNBUILT: &[u8] = b"SOSM\x01\x01\0\0\0\0\0\0\0\x02\0\0\0\x08\x95";
+
+/// The image of the module that says 65, without its last byte.
+const SAYS_CUT: &[u8] = b"SOSM\x01\x01\0\0\0\0\0\0\0\x04\0\x81\xE4\x0E\x94\x08\xF1\x08";
+
+/// Module 1 begins with an indirect jump, which is refused: 9409 9508.
+const JUMPS: &[u8] = b"SOSM\x01\x01\0\0\0\0\0\0\0\x02\0\x09\x94\x08\x95";
+
+/// Module 1 runs past its end: E481.
+const FALLS_OFF: &[u8] = b"SOSM\x01\x01\0\0\0\0\0\0\0\x01\0\x81\xE4";
+
+/// Module 1 is marked as a rewriter's: 9508.
+const REWRITTEN: &[u8] = b"SOSM\x01\x01\x01\0\0\0\0\0\0\x01\0\x08\x95";
+
+/// Module 2 asks for 4000 bytes of state, of which the heap has 3072: 9508.
+const ASKS_MUCH: &[u8] = b"SOSM\x01\x02\0\xA0\x0F\0\0\0\0\x01\0\x08\x95";
+
+/// Module 2 may pass over a store: FF00 931C 9508.
+const SKIPS: &[u8] = b"SOSM\x01\x02\0\0\0\0\0\0\0\x03\0\0\xFF\x1C\x93\x08\x95";
+
+/// Module 1 provides function 1 at word 0, subscribes to function 1 of module 2, and says 65 from word 1 on:
+/// 9508 E481 940E F108 9508.
+const HAS_FACE: &[u8] = b"SOSM\x01\x01\0\0\0\x01\0\x01\x01\x05\0\x01iv00\0\0\x02\x01iv00\
+    \x08\x95\x81\xE4\x0E\x94\x08\xF1\x08\x95";
 
 /// Module 2 stores to register 0: 930C 9508.
 const STRAYS: &[u8] = b"SOSM\x01\x02\0\0\0\0\0\0\0\x02\0\x0C\x93\x08\x95";
@@ -67,6 +91,8 @@ const RETURNS: &[&[u8]] = &[
 const LOAD: &str = "0 load 0\n";
 
 const SAID: &str = "0 load 1 0 0000\n0 run 1 0 0\n1 say 1 65\n2 done 1\n3 end idle\n";
+
+const LISTED: &str = "0 0000 ldi r24,65\n1 0001 kcall 8\n2 0003 ret\n";
 
 const EIGHT_LOADS: &str =
     "0 load 0\n0 load 1\n0 load 2\n0 load 3\n0 load 4\n0 load 5\n0 load 6\n0 load 7\n";
@@ -131,7 +157,7 @@ fn answer<W: Sink>(
 /// A call or put that is never made.
 const NEVER: u32 = 1000;
 
-/// A run: the words, the script, the images, and what is answered.
+/// A call: the words, the script, the images, and what is answered.
 struct Row {
     words: &'static str,
     script: &'static str,
@@ -140,7 +166,7 @@ struct Row {
     text: &'static str,
 }
 
-const ROWS: &[Row] = &[
+const RUNS: &[Row] = &[
     Row {
         words: "run s a",
         script: LOAD,
@@ -273,6 +299,48 @@ const ROWS: &[Row] = &[
         text: FILLED,
     },
     Row {
+        words: "run s a",
+        script: LOAD,
+        images: &[SAYS_CUT],
+        status: Status::Done,
+        text: "0 refused 0 1 1 22 0\n0 end idle\n",
+    },
+    Row {
+        words: "run s a",
+        script: LOAD,
+        images: &[JUMPS],
+        status: Status::Done,
+        text: "0 refused 0 2 2 0 1\n0 end idle\n",
+    },
+    Row {
+        words: "run s a",
+        script: LOAD,
+        images: &[FALLS_OFF],
+        status: Status::Done,
+        text: "0 refused 0 2 4 0 0\n0 end idle\n",
+    },
+    Row {
+        words: "run s a",
+        script: LOAD,
+        images: &[REWRITTEN],
+        status: Status::Refused,
+        text: "refused unbuilt\n",
+    },
+    Row {
+        words: "run s a",
+        script: LOAD,
+        images: &[ASKS_MUCH],
+        status: Status::Done,
+        text: "0 refused 0 6 0 0 0\n0 end idle\n",
+    },
+    Row {
+        words: "run s a",
+        script: LOAD,
+        images: &[HAS_FACE],
+        status: Status::Done,
+        text: SAID,
+    },
+    Row {
         words: "run s x",
         script: LOAD,
         images: &[SAYS],
@@ -281,15 +349,113 @@ const ROWS: &[Row] = &[
     },
 ];
 
-#[test]
-fn answers_are_the_worked_ones(rt: HostRuntime) -> Result<(), Fail> {
-    let alloc = rt.alloc();
-    for row in ROWS {
+const LISTINGS: &[Row] = &[
+    Row {
+        words: "list a",
+        script: "",
+        images: &[SAYS],
+        status: Status::Done,
+        text: LISTED,
+    },
+    Row {
+        words: "list a",
+        script: "",
+        images: &[SKIPS],
+        status: Status::Done,
+        text: "0 0000 sbrs r16,0\n1 0001 st x,r17\n2 0002 ret\n",
+    },
+    Row {
+        words: "list a",
+        script: "",
+        images: &[UNBUILT],
+        status: Status::Done,
+        text: "0 0000 nop\n1 0001 ret\n",
+    },
+    Row {
+        words: "list a",
+        script: "",
+        images: &[HAS_FACE],
+        status: Status::Done,
+        text: "0 0000 ret\n1 0001 ldi r24,65\n2 0002 kcall 8\n3 0004 ret\n",
+    },
+    Row {
+        words: "list a",
+        script: "",
+        images: &[JUMPS],
+        status: Status::Refused,
+        text: "refused code 2 0 1\n",
+    },
+    Row {
+        words: "list a",
+        script: "",
+        images: &[FALLS_OFF],
+        status: Status::Refused,
+        text: "refused code 4 0 0\n",
+    },
+    Row {
+        words: "list a",
+        script: "",
+        images: &[SAYS_CUT],
+        status: Status::Refused,
+        text: "refused image 1 22\n",
+    },
+    Row {
+        words: "list a",
+        script: "",
+        images: &[REWRITTEN],
+        status: Status::Refused,
+        text: "refused unbuilt\n",
+    },
+    Row {
+        words: "list",
+        script: "",
+        images: &[SAYS],
+        status: Status::Usage,
+        text: "mote: usage\n",
+    },
+    Row {
+        words: "list a b",
+        script: "",
+        images: &[SAYS, SKIPS],
+        status: Status::Usage,
+        text: "mote: usage\n",
+    },
+    Row {
+        words: "list -x",
+        script: "",
+        images: &[SAYS],
+        status: Status::Usage,
+        text: "mote: usage\n",
+    },
+    Row {
+        words: "list b",
+        script: "",
+        images: &[SAYS],
+        status: Status::ReadFault,
+        text: "",
+    },
+];
+
+/// Each row is answered as it says.
+fn check_rows(rt: &impl Abort, alloc: Global, rows: &[Row]) -> Result<(), NoMemory> {
+    for row in rows {
         let mut shelf = shelf_with(alloc, row.script.as_bytes(), row.images, NEVER)?;
         let mut out = MemSink::new(alloc, 1000, vec![in alloc]?)?;
         assert_eq!(rt; answer(alloc, row.words, &mut shelf, &mut out)?, row.status);
         assert_eq!(rt; out.bytes(), row.text.as_bytes());
     }
+    Ok(())
+}
+
+#[test]
+fn runs_are_the_worked_ones(rt: HostRuntime) -> Result<(), Fail> {
+    check_rows(&rt, rt.alloc(), RUNS)?;
+    Ok(())
+}
+
+#[test]
+fn listings_are_the_worked_ones(rt: HostRuntime) -> Result<(), Fail> {
+    check_rows(&rt, rt.alloc(), LISTINGS)?;
     Ok(())
 }
 
@@ -304,6 +470,25 @@ fn endless_posts_end_at_the_budget(rt: HostRuntime) -> Result<(), Fail> {
         Status::Done
     );
     assert_eq!(rt; out.total(), 6_155_625);
+    Ok(())
+}
+
+/// Where no call can fail a listing is whole: lines of 18, 15 and 11 bytes.
+#[test]
+fn certain_listing_is_whole(rt: HostRuntime) -> Result<(), Fail> {
+    let alloc = rt.alloc();
+    let image = (Word::from_text(alloc, "a")?, Vec::from_slice(alloc, SAYS)?);
+    let mut shelf = SureShelf::new(alloc, vec![in alloc; image]?)?;
+    let mut out = SureSink::new();
+    let words = [
+        Word::from_text(alloc, "list")?,
+        Word::from_text(alloc, "a")?,
+    ];
+    assert_eq!(rt;
+        certain_status(alloc, &words, &mut shelf, &mut out),
+        Status::Done
+    );
+    assert_eq!(rt; out.total(), 44);
     Ok(())
 }
 
@@ -352,6 +537,51 @@ fn faults_are_answered_at_each_call(rt: HostRuntime) -> Result<(), Fail> {
             answer(alloc, "run s a", &mut shelf, &mut out)?,
             status,
             "put {put}"
+        );
+        assert_eq!(rt; out.bytes(), text.as_bytes());
+    }
+    Ok(())
+}
+
+/// No put follows one that failed.
+#[test]
+fn failed_put_ends_a_listing(rt: HostRuntime) -> Result<(), Fail> {
+    let alloc = rt.alloc();
+    let puts = [
+        (0, Status::WriteFault, ""),
+        (1, Status::WriteFault, "0 0000 ldi r24,65\n"),
+        (2, Status::WriteFault, "0 0000 ldi r24,65\n1 0001 kcall 8\n"),
+        (3, Status::Done, LISTED),
+    ];
+    for (put, status, text) in puts {
+        let mut shelf = shelf_with(alloc, b"", &[SAYS], NEVER)?;
+        let mut out = MemSink::new(alloc, 1000, vec![in alloc; put]?)?;
+        assert_eq!(rt;
+            answer(alloc, "list a", &mut shelf, &mut out)?,
+            status,
+            "put {put}"
+        );
+        assert_eq!(rt; out.bytes(), text.as_bytes());
+    }
+    Ok(())
+}
+
+/// An image to list has its limit too. Bytes that are all 0 begin no image.
+#[test]
+fn size_comes_before_the_image(rt: HostRuntime) -> Result<(), Fail> {
+    let alloc = rt.alloc();
+    let rows = [
+        (65_536usize, "refused image 2 0\n"),
+        (65_537, "refused size 0\n"),
+    ];
+    for (size, text) in rows {
+        let image = vec![in alloc; 0u8; size]?;
+        let mut shelf = shelf_with(alloc, b"", &[&image], NEVER)?;
+        let mut out = MemSink::new(alloc, 1000, vec![in alloc]?)?;
+        assert_eq!(rt;
+            answer(alloc, "list a", &mut shelf, &mut out)?,
+            Status::Refused,
+            "{text}"
         );
         assert_eq!(rt; out.bytes(), text.as_bytes());
     }

@@ -26,8 +26,8 @@ pub fn add_number(line: &mut Line, number: u64)
     add_text(line, buffer.format(number).as_bytes());
 }
 
-// Adds a space and a number.
-fn add_field(line: &mut Line, number: u64)
+/// Adds a space and a number.
+pub fn add_field(line: &mut Line, number: u64)
     requires { array_vec_len line.old + 21 ≤ 256 }
     ensures items { line.new.items ≡ line.old.items ++ field number }
     ensures len { array_vec_len line.new ≤ array_vec_len line.old + 21 }

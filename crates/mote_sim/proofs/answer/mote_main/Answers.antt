@@ -1,9 +1,12 @@
-use Rattle.mote_sim.proofs.Clauses.{headline, usage, refused, complete, answered, front, cut}
+use Rattle.mote_sim.proofs.Clauses.{headline, listing, usage, refused, complete, answered, front, cut}
 use Rattle.mote_sim.proofs.Counts.{has_its_files}
 use Rattle.mote_sim.proofs.answer.mote_main.Goals as goal
 
 pub returns-clause-headline : goal.returns-clause-headline
 returns-clause-headline g c = headline _ _ _ _ _ _ _ _ _ _ (has_its_files c.args.words.now) c.answer.ensures.ends
+
+pub returns-clause-listing : goal.returns-clause-listing
+returns-clause-listing g c = listing _ _ _ _ _ _ _ _ _ _ (has_its_files c.args.words.now) c.answer.ensures.ends
 
 pub returns-clause-usage : goal.returns-clause-usage
 returns-clause-usage g c = usage _ _ _ _ _ _ _ _ _ _ c.answer.ensures.ends

@@ -1,23 +1,31 @@
-use Rattle.std.proofs.Common.{◌≡◌, ◌≤◌, ◌-◌, refl, subst, List, [], ◌∷◌, length, take, drop, get_or, arith}
+use Rattle.std.proofs.Common.{◌≡◌, ◌≤◌, ◌<◌, ◌-◌, sym, subst, List, [], ◌∷◌, length, take, drop, get_or, arith}
 use Rattle.std.proofs.lemmas.List.{take_all}
-use Rattle.domain_model.specs.declared.request.Kind.{Kind}
-use Rattle.domain_model.specs.declared.request.Kind.TheVariants.{Run}
+use Rattle.domain_model.specs.declared.request.Kind.TheVariants.{Run, Listing}
 use Rattle.mote_sim.specs.Outcome.{Answers, outcome_by}
 use Rattle.mote_sim.specs.Reading.{bytes_of}
 use Rattle.mote_sim.proofs.Ends.{ends_as}
 use Rattle.mote_sim.proofs.answer.perform.Goals as goal
-
-kind_is_run : (kind : Kind) → Run ≡ kind
-kind_is_run Run = refl
 
 first_and_others : {X : Type 0} (xs : List X) (a : X) → 1 ≤ length xs → a ≡ get_or xs 0 a → a ∷ take (length xs - 1) (drop 1 xs) ≡ xs
 first_and_others [] a low is = absurd (omega (arith, low))
 first_and_others (x ∷ xs) a low is =
     let all : take (length (x ∷ xs) - 1) xs ≡ xs = take_all (length (x ∷ xs) - 1) xs (omega arith) in cc
 
-pub returns : goal.returns
-returns g c =
+first_alone : {X : Type 0} (xs : List X) (a : X) → 1 ≤ length xs → length xs < 2 → a ≡ get_or xs 0 a → a ∷ [] ≡ xs
+first_alone [] a low high is = absurd (omega (arith, low))
+first_alone (x ∷ []) a low high is = cc
+first_alone (x ∷ y ∷ xs) a low high is = absurd (omega (arith, high))
+
+pub returns-in-len1 : goal.returns-in-len1
+returns-in-len1 g c =
+    let files : c.file-item.result ∷ [] ≡ c.args.files.now = first_alone c.args.files.now c.file-item.result c.in-len1.len_at_least c.in-len1.len_below c.file-item.is in
+    ends_as _ _ _ _ _ _ (Answers (outcome_by c.args.kind (bytes_of c.args.files.now)))
+    (λ s t a. subst (λ kind. Answers (outcome_by kind (bytes_of c.args.files.now)) s t) (sym c.in-Listing.is)
+    (subst (λ xs. Answers (outcome_by Listing (bytes_of xs)) s t) files (rw (← c.deref-in-len1.ensures.value) a))) c.list.result c.list.ensures
+
+pub returns-in-len1-up : goal.returns-in-len1-up
+returns-in-len1-up g c =
     let files : c.script-item.result ∷ take (length c.args.files.now - 1) (drop 1 c.args.files.now) ≡ c.args.files.now = first_and_others c.args.files.now c.script-item.result c.in-len1-up.len_at_least c.script-item.is in
     ends_as _ _ _ _ _ _ (Answers (outcome_by c.args.kind (bytes_of c.args.files.now)))
-    (λ s t a. subst (λ kind. Answers (outcome_by kind (bytes_of c.args.files.now)) s t) (kind_is_run c.args.kind)
+    (λ s t a. subst (λ kind. Answers (outcome_by kind (bytes_of c.args.files.now)) s t) (sym c.in-Run.is)
     (subst (λ xs. Answers (outcome_by Run (bytes_of xs)) s t) files (rw (← c.deref.ensures.value) a))) c.run.result c.run.ensures

@@ -1,7 +1,7 @@
 use Rattle.std.proofs.Common.{refl}
 use Rattle.mote_base.proofs.Puts.{wrote_one, broke_one}
 use Rattle.mote_sim.proofs.Ends.{ends_wrote}
-use Rattle.mote_sim.proofs.answer.put_answer.Goals as goal
+use Rattle.mote_sim.proofs.one_line.put_answer.Goals as goal
 
 pub returns-in-Ok-clause-ends : goal.returns-in-Ok-clause-ends
 returns-in-Ok-clause-ends g c =

@@ -1,0 +1,58 @@
+//! Answers that are one line.
+ghost use Rattle.std.specs.Prelude.{◌≡◌, ◌⊎◌};
+ghost use Rattle.mote_sim.specs.Ending.{Ends, IsAnswer};
+ghost use Rattle.mote_sim.specs.Outcome.{Answers, BadCode, BadImage, TooLong};
+
+use crate::trace_text::{add_field, add_text};
+use arrayvec::ArrayVec;
+use module_image::ImageError;
+use mote_base::{Line, Sink, Status};
+use unit_code::CodeError;
+
+/// Puts a line that is the whole output.
+pub fn put_answer<K: Sink>(out: &mut K, line: &[u8], status: Status) -> Status
+    requires { IsAnswer status }
+    ensures ends { Ends K.written K.faults K.leads out.old out.new 0 0 (λ s text. (s ≡ status) × (text ≡ line.now)) result }
+    ensures either { (result ≡ status) ⊎ (result ≡ Status.WriteFault) }
+{
+    match out.put(line) {
+        Ok(()) => status,
+        Err(_) => Status::WriteFault,
+    }
+}
+
+/// Puts the line on a file that is too long.
+pub fn put_size<K: Sink>(out: &mut K, number: usize) -> Status
+    ensures { Ends K.written K.faults K.leads out.old out.new 0 0 (Answers (TooLong number)) result }
+{
+    let mut line: Line = ArrayVec::new();
+    add_text(&mut line, b"refused size");
+    add_field(&mut line, number as u64);
+    add_text(&mut line, b"\n");
+    put_answer(out, line.as_slice(), Status::Refused)
+}
+
+/// Puts the line on a file that is no image.
+pub fn put_image<K: Sink>(out: &mut K, refusal: &ImageError) -> Status
+    ensures { Ends K.written K.faults K.leads out.old out.new 0 0 (Answers (BadImage refusal.now)) result }
+{
+    let mut line: Line = ArrayVec::new();
+    add_text(&mut line, b"refused image");
+    add_field(&mut line, u64::from(refusal.number()));
+    add_field(&mut line, u64::from(refusal.value()));
+    add_text(&mut line, b"\n");
+    put_answer(out, line.as_slice(), Status::Refused)
+}
+
+/// Puts the line on code that has no units.
+pub fn put_code<K: Sink>(out: &mut K, refusal: &CodeError) -> Status
+    ensures { Ends K.written K.faults K.leads out.old out.new 0 0 (Answers (BadCode refusal.now)) result }
+{
+    let mut line: Line = ArrayVec::new();
+    add_text(&mut line, b"refused code");
+    add_field(&mut line, u64::from(refusal.number().unwrap_or(0)));
+    add_field(&mut line, u64::from(refusal.word()));
+    add_field(&mut line, u64::from(refusal.kind()));
+    add_text(&mut line, b"\n");
+    put_answer(out, line.as_slice(), Status::Refused)
+}
