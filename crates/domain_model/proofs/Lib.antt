@@ -15,3 +15,4 @@ pub mod CrossingLaws
 pub mod UnloadLaws
 pub mod OthersLaws
 pub mod LawfulLaws
+pub mod FileLaws

@@ -3,6 +3,7 @@ pub mod Command
 pub mod Script
 pub mod Units
 pub mod Prepared
+pub mod Files
 pub mod State
 pub mod Act
 pub mod Free

@@ -1,4 +1,5 @@
 //! The laws of the machine. Each stands over the definitions alone.
+ghost use Rattle.domain_model.specs.Files.{FilesAreAsPrepared};
 ghost use Rattle.domain_model.specs.Laws.{TurnsAreLawful, RunsAreLawful, RunsEnd};
 
 /// Law: every turn from a good state keeps it good, is confined to what is the running domain's, changes the
@@ -12,4 +13,11 @@ pub fn every_turn_is_lawful()
 /// Law: from every good state there is a run to an end.
 pub fn every_good_state_runs_to_an_end()
     ensures { RunsEnd }
+{}
+
+/// Law: a file that came to a module is an image that no rewriter made, whose code no condition refuses, and the module
+/// has its face, its units, and the units that begin at its words; a file that was refused is no image, or the refusal is
+/// the first condition that its code meets; a file that came to neither is not built.
+pub fn files_are_as_prepared()
+    ensures { FilesAreAsPrepared }
 {}

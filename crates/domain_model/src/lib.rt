@@ -5,8 +5,8 @@
 //! them, and nothing in them speaks of that code.
 //!
 //! - `State`: the processor, the kernel's lists, the units of the loaded modules, and what is still to come.
-//! - `Units`: the units that can run. `Prepared`: what the file of an image comes to. `Script`, `Command`: what a script
-//!   file and the words of the command line mean.
+//! - `Units`: the units that can run. `Prepared`: what the file of an image comes to. `Files`: what such a file is, in
+//!   the words of images and of code. `Script`, `Command`: what a script file and the words of the command line mean.
 //! - `Act`: what one unit does. `Free`: the bytes whose values a run leaves open.
 //! - `Turn`: which turn comes next, what it does, and the runs of turns. `Text`: the bytes of a trace.
 //! - `Good`: what every turn keeps. `Facts`: what each choice of a turn says of the state. `Remaining`: how many
@@ -30,7 +30,7 @@ mod tests;
 pub use event::{Choice, Event, Turned, What};
 pub use fault::{FaultNote, Rule, UnitEnd};
 pub use handler::Running;
-pub use laws::{every_good_state_runs_to_an_end, every_turn_is_lawful};
+pub use laws::{every_good_state_runs_to_an_end, every_turn_is_lawful, files_are_as_prepared};
 pub use line::TraceLine;
 pub use lines::Lines;
 pub use refusal::Refusal;
