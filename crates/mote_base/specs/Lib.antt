@@ -1,6 +1,8 @@
 pub mod Causes
 pub mod Counting
 pub mod Files
+pub mod Frames
+pub mod Lines
 pub mod Messages
 pub mod Shelves
 pub mod Sinks

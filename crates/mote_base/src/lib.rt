@@ -7,6 +7,9 @@
 
 mod fault;
 mod files;
+mod frame;
+mod limits;
+mod line;
 mod memory;
 mod message;
 mod outside;
@@ -17,15 +20,14 @@ mod timer;
 mod word;
 mod words;
 
-use arrayvec::ArrayVec;
 pub use fault::{Failed, NoMemory, Status};
+pub use frame::{FRAMES, Frame};
+pub use limits::limits_are_as_defined;
+pub use line::{LINE_BYTES, Line};
 pub use memory::{MemShelf, MemSink};
-pub use message::Msg;
+pub use message::{Msg, QUEUE_MESSAGES};
 pub use outside::{Shelf, Sink};
 pub use sure::{SureShelf, SureSink};
-pub use timer::Timer;
+pub use timer::{TIMERS, Timer};
 pub use word::Word;
 pub use words::Words;
-
-/// A line of output, its line feed included.
-pub type Line = ArrayVec<u8, 256>;

@@ -1,5 +1,8 @@
 //! What a module posts to another, and what the kernel posts to a module.
 
+/// How many messages each of the two queues holds.
+pub const QUEUE_MESSAGES: usize = 16;
+
 /// A message, with a payload of type `P` or none.
 ///
 /// After SOS (Han et al., MobiSys 2005): a message has a receiver, a sender, a type and two small arguments.

@@ -1,5 +1,8 @@
 //! What a module asks to be reminded of.
 
+/// How many timers run at a time.
+pub const TIMERS: usize = 16;
+
 /// A timer of a module.
 #[derive(Clone, Copy, Debug, Default, PartialEq, Eq)]
 pub struct Timer {

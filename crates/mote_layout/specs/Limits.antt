@@ -1,16 +1,6 @@
 -- How much of each thing there may be at most, and the budgets that hold where none is given.
 use Rattle.std.specs.Prelude.{ℕ}
 
--- What the kernel holds: frames of the safe stack, timers, and messages of each queue.
-abbrev pub frame_limit : ℕ
-frame_limit = 32
-
-abbrev pub timer_limit : ℕ
-timer_limit = 16
-
-abbrev pub queue_limit : ℕ
-queue_limit = 16
-
 -- What a module has: functions that it provides and functions that it subscribes to.
 abbrev pub provided_limit : ℕ
 provided_limit = 16
@@ -48,9 +38,6 @@ handler_limit = 1000000
 abbrev pub default_handler_units : ℕ
 default_handler_units = 10000
 
--- What a run writes: trace lines of a turn, and bytes of a line.
-abbrev pub line_limit : ℕ
-line_limit = 512
-
-abbrev pub line_bytes : ℕ
-line_bytes = 256
+-- What a run writes: trace lines of a turn.
+abbrev pub turn_lines : ℕ
+turn_lines = 512

@@ -15,6 +15,31 @@ sph = 0x005E
 abbrev pub sreg : ℕ
 sreg = 0x005F
 
+-- The pointer registers X, Y and Z by their lower registers (data sheet, "The X-register, Y-register, and
+-- Z-register").
+abbrev pub pointer_x : ℕ
+pointer_x = 26
+
+abbrev pub pointer_y : ℕ
+pointer_y = 28
+
+abbrev pub pointer_z : ℕ
+pointer_z = 30
+
+-- The ports of SP's two bytes and of SREG: IN and OUT count the I/O addresses from 0x20 (data sheet, "Register
+-- Summary").
+abbrev pub first_port : ℕ
+first_port = 0x20
+
+abbrev pub spl_port : ℕ
+spl_port = 0x3D
+
+abbrev pub sph_port : ℕ
+sph_port = 0x3E
+
+abbrev pub sreg_port : ℕ
+sreg_port = 0x3F
+
 abbrev pub ram_start : ℕ
 ram_start = 0x0100
 
@@ -69,7 +94,7 @@ block_bytes = 8
 
 -- The domains are numbered from 0, and the kernel is the owner after them.
 abbrev pub domain_count : ℕ
-domain_count = 7
+domain_count = 15
 
 abbrev pub kernel : ℕ
 kernel = domain_count

@@ -1,16 +1,9 @@
 //! How much of each thing there may be. All of these limits are this project's own.
+//!
+//! The limits on messages, timers, frames and the bytes of a line stand in `mote_base`, beside the types that they bound.
 
 ghost use Rattle.std.specs.Prelude.{◌≡◌};
-ghost use Rattle.mote_layout.specs.Limits.{frame_limit, timer_limit, queue_limit, provided_limit, subscribed_limit, payload_limit, script_limit, event_limit, image_limit, images_limit, unit_limit, default_units, handler_limit, default_handler_units, line_limit, line_bytes};
-
-/// How many frames the safe stack holds.
-pub const FRAMES: usize = 32;
-
-/// How many timers run at a time.
-pub const TIMERS: usize = 16;
-
-/// How many messages each of the two queues holds.
-pub const QUEUE_MESSAGES: usize = 16;
+ghost use Rattle.mote_layout.specs.Limits.{provided_limit, subscribed_limit, payload_limit, script_limit, event_limit, image_limit, images_limit, unit_limit, default_units, handler_limit, default_handler_units, turn_lines};
 
 /// How many functions a module provides.
 pub const PROVIDED: usize = 16;
@@ -48,15 +41,9 @@ pub const DEFAULT_HANDLER_UNITS: u64 = 10_000;
 /// How many trace lines a turn writes.
 pub const LINES_PER_TURN: usize = 512;
 
-/// How many bytes a line has.
-pub const LINE_BYTES: usize = 256;
-
 /// Law: each limit is the number that the definitions give it.
 pub fn limits_are_as_defined()
-    // What the kernel holds.
-    ensures frames { FRAMES ≡ frame_limit }
-    ensures timers { TIMERS ≡ timer_limit }
-    ensures queues { QUEUE_MESSAGES ≡ queue_limit }
+    // What a module has.
     ensures entries { (PROVIDED ≡ provided_limit) × (SUBSCRIBED ≡ subscribed_limit) }
     ensures payloads { PAYLOAD_BYTES ≡ payload_limit }
 
@@ -67,5 +54,5 @@ pub fn limits_are_as_defined()
     ensures watchdog { (MAX_HANDLER_UNITS ≡ handler_limit) × (DEFAULT_HANDLER_UNITS ≡ default_handler_units) }
 
     // What a run writes.
-    ensures lines { (LINES_PER_TURN ≡ line_limit) × (LINE_BYTES ≡ line_bytes) }
+    ensures lines { LINES_PER_TURN ≡ turn_lines }
 {}

@@ -4,7 +4,7 @@
 //! "AVR ATmega128 Memories"). The division of the SRAM and of the flash is this project's own.
 
 ghost use Rattle.std.specs.Prelude.{◌≡◌, ◌+◌, ◌*◌};
-ghost use Rattle.mote_layout.specs.Memory.{register_count, spl, sph, sreg, ram_start, ram_end, ram_bytes, message_frame, message_frame_bytes, kernel_bytes_start, kernel_bytes_end, heap_start, heap_end, block_count, block_bytes, red_zone_start, red_zone_end, stack_start, stack_top, floor, domain_count, kernel, banks_start, bank_words};
+ghost use Rattle.mote_layout.specs.Memory.{register_count, spl, sph, sreg, pointer_x, pointer_y, pointer_z, first_port, spl_port, sph_port, sreg_port, ram_start, ram_end, ram_bytes, message_frame, message_frame_bytes, kernel_bytes_start, kernel_bytes_end, heap_start, heap_end, block_count, block_bytes, red_zone_start, red_zone_end, stack_start, stack_top, floor, domain_count, kernel, banks_start, bank_words};
 
 /// How many registers there are; R0 to R31 are also the data addresses 0 to 31.
 pub const REGISTERS: u16 = 32;
@@ -17,6 +17,27 @@ pub const SPH: u16 = 0x005E;
 
 /// The data address of the status register.
 pub const SREG: u16 = 0x005F;
+
+/// The lower register of the pointer X, which is R27:R26.
+pub const POINTER_X: u8 = 26;
+
+/// The lower register of the pointer Y, which is R29:R28.
+pub const POINTER_Y: u8 = 28;
+
+/// The lower register of the pointer Z, which is R31:R30.
+pub const POINTER_Z: u8 = 30;
+
+/// The data address of port 0: IN and OUT count the I/O addresses from it.
+pub const FIRST_PORT: u16 = 0x20;
+
+/// The port of the stack pointer's low byte.
+pub const SPL_PORT: u8 = 0x3D;
+
+/// The port of the stack pointer's high byte.
+pub const SPH_PORT: u8 = 0x3E;
+
+/// The port of the status register.
+pub const SREG_PORT: u8 = 0x3F;
 
 /// The first address of the internal SRAM.
 pub const RAM_START: u16 = 0x0100;
@@ -67,7 +88,7 @@ pub const STACK_START: u16 = 0x0E10;
 pub const STACK_TOP: u16 = 0x10FF;
 
 /// How many module domains there are; they are numbered from 0.
-pub const DOMAINS: u8 = 7;
+pub const DOMAINS: u8 = 15;
 
 /// The kernel's number as an owner, the one after the domains'.
 pub const KERNEL: u8 = DOMAINS;
@@ -84,6 +105,11 @@ pub fn memory_is_as_defined()
     ensures registers { REGISTERS ≡ register_count }
     ensures stack_pointer { (SPL ≡ spl) × (SPH ≡ sph) }
     ensures status { SREG ≡ sreg }
+    ensures pointers { (POINTER_X ≡ pointer_x) × (POINTER_Y ≡ pointer_y) × (POINTER_Z ≡ pointer_z) }
+    ensures ports { (SPL_PORT ≡ spl_port) × (SPH_PORT ≡ sph_port) × (SREG_PORT ≡ sreg_port)
+        × (FIRST_PORT ≡ first_port) }
+    ensures same_places { (SPL ≡ FIRST_PORT + SPL_PORT) × (SPH ≡ FIRST_PORT + SPH_PORT)
+        × (SREG ≡ FIRST_PORT + SREG_PORT) }
     ensures ram { (RAM_START ≡ ram_start) × (RAM_END ≡ ram_end) × (RAM_BYTES ≡ ram_bytes) }
 
     // The division of the SRAM.
