@@ -1,6 +1,6 @@
 //! The lines of a turn, kept and cleared.
 
-use crate::{Lines, TraceLine};
+use domain_model::{Lines, TraceLine};
 
 #[test]
 fn keeps_lines_in_order(rt: HostRuntime) {

@@ -1,7 +1,7 @@
 //! Runs of the top call over files and a sink in memory. Code words stand low byte first.
 
-use crate::{certain_status, mote_main};
 use mote_base::{MemShelf, MemSink, NoMemory, Sink, Status, SureShelf, SureSink, Word};
+use mote_sim::{certain_status, mote_main};
 use std::alloc::Global;
 use std::process::Abort;
 use std::test::Fail;
@@ -76,7 +76,7 @@ const FILLS: &[u8] = b"SOSM\x01\x01\0\0\0\0\0\0\0\x38\0\
 /// Module 2 does nothing: 9508.
 const IDLES: &[u8] = b"SOSM\x01\x02\0\0\0\0\0\0\0\x01\0\x08\x95";
 
-/// Eight modules that do nothing: 9508.
+/// Sixteen modules that do nothing: 9508.
 const RETURNS: &[&[u8]] = &[
     b"SOSM\x01\x01\0\0\0\0\0\0\0\x01\0\x08\x95",
     b"SOSM\x01\x02\0\0\0\0\0\0\0\x01\0\x08\x95",
@@ -86,6 +86,14 @@ const RETURNS: &[&[u8]] = &[
     b"SOSM\x01\x06\0\0\0\0\0\0\0\x01\0\x08\x95",
     b"SOSM\x01\x07\0\0\0\0\0\0\0\x01\0\x08\x95",
     b"SOSM\x01\x08\0\0\0\0\0\0\0\x01\0\x08\x95",
+    b"SOSM\x01\x09\0\0\0\0\0\0\0\x01\0\x08\x95",
+    b"SOSM\x01\x0a\0\0\0\0\0\0\0\x01\0\x08\x95",
+    b"SOSM\x01\x0b\0\0\0\0\0\0\0\x01\0\x08\x95",
+    b"SOSM\x01\x0c\0\0\0\0\0\0\0\x01\0\x08\x95",
+    b"SOSM\x01\x0d\0\0\0\0\0\0\0\x01\0\x08\x95",
+    b"SOSM\x01\x0e\0\0\0\0\0\0\0\x01\0\x08\x95",
+    b"SOSM\x01\x0f\0\0\0\0\0\0\0\x01\0\x08\x95",
+    b"SOSM\x01\x10\0\0\0\0\0\0\0\x01\0\x08\x95",
 ];
 
 const LOAD: &str = "0 load 0\n";
@@ -94,17 +102,26 @@ const SAID: &str = "0 load 1 0 0000\n0 run 1 0 0\n1 say 1 65\n2 done 1\n3 end id
 
 const LISTED: &str = "0 0000 ldi r24,65\n1 0001 kcall 8\n2 0003 ret\n";
 
-const EIGHT_LOADS: &str =
-    "0 load 0\n0 load 1\n0 load 2\n0 load 3\n0 load 4\n0 load 5\n0 load 6\n0 load 7\n";
+const SIXTEEN_LOADS: &str =
+    "0 load 0\n0 load 1\n0 load 2\n0 load 3\n0 load 4\n0 load 5\n0 load 6\n0 load 7\n\
+    0 load 8\n0 load 9\n0 load 10\n0 load 11\n0 load 12\n0 load 13\n0 load 14\n0 load 15\n";
 
-const SEVEN_LOADED: &str = "0 load 1 0 0000\n0 run 1 0 0\n0 done 1\n\
+const FIFTEEN_LOADED: &str = "0 load 1 0 0000\n0 run 1 0 0\n0 done 1\n\
     1 load 2 1 0000\n1 run 2 0 0\n1 done 2\n\
     2 load 3 2 0000\n2 run 3 0 0\n2 done 3\n\
     3 load 4 3 0000\n3 run 4 0 0\n3 done 4\n\
     4 load 5 4 0000\n4 run 5 0 0\n4 done 5\n\
     5 load 6 5 0000\n5 run 6 0 0\n5 done 6\n\
     6 load 7 6 0000\n6 run 7 0 0\n6 done 7\n\
-    7 refused 7 5 0 0 0\n7 end idle\n";
+    7 load 8 7 0000\n7 run 8 0 0\n7 done 8\n\
+    8 load 9 8 0000\n8 run 9 0 0\n8 done 9\n\
+    9 load 10 9 0000\n9 run 10 0 0\n9 done 10\n\
+    10 load 11 10 0000\n10 run 11 0 0\n10 done 11\n\
+    11 load 12 11 0000\n11 run 12 0 0\n11 done 12\n\
+    12 load 13 12 0000\n12 run 13 0 0\n12 done 13\n\
+    13 load 14 13 0000\n13 run 14 0 0\n13 done 14\n\
+    14 load 15 14 0000\n14 run 15 0 0\n14 done 15\n\
+    15 refused 15 5 0 0 0\n15 end idle\n";
 
 /// The queue holds sixteen: the seventeenth post answers 1.
 const FILLED: &str =
@@ -120,7 +137,9 @@ const FILLED: &str =
     55 end idle\n";
 
 /// The names of the images.
-const NAMES: [&str; 8] = ["a", "b", "c", "d", "e", "f", "g", "h"];
+const NAMES: [&str; 16] = [
+    "a", "b", "c", "d", "e", "f", "g", "h", "i", "j", "k", "l", "m", "n", "o", "p",
+];
 
 /// The shelf holds a script `s` and images from `a` on, and fails at the call with that number.
 fn shelf_with(
@@ -271,11 +290,11 @@ const RUNS: &[Row] = &[
         text: "0 load 1 0 0000\n0 run 1 0 0\n1 say 1 65\n2 done 1\n3 refused 0 4 0 0 0\n3 end idle\n",
     },
     Row {
-        words: "run s a b c d e f g h",
-        script: EIGHT_LOADS,
+        words: "run s a b c d e f g h i j k l m n o p",
+        script: SIXTEEN_LOADS,
         images: RETURNS,
         status: Status::Done,
-        text: SEVEN_LOADED,
+        text: FIFTEEN_LOADED,
     },
     Row {
         words: "run s a",

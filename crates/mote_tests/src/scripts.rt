@@ -1,7 +1,7 @@
 //! Scripts and their events, written by hand.
 
-use super::parse_script;
 use domain_model::{Event, What};
+use mote_core::parse_script;
 use std::test::Fail;
 
 const FIRST: &[Event] = &[Event {
