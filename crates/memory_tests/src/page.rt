@@ -1,6 +1,6 @@
 //! The edges of each row of the entry page.
 
-use crate::{Entry, entry_of};
+use mote_layout::{Entry, entry_of};
 
 #[test]
 fn finds_the_entries(rt: HostRuntime) {

@@ -1,7 +1,7 @@
 //! The edges of a request, a heap in pieces, and each call.
 
-use crate::{Heap, NotOwner};
 use mote_layout::KERNEL;
+use sos_heap::{Heap, NotOwner};
 use std::test::Fail;
 
 #[test]

@@ -1,6 +1,6 @@
 //! The whole heap as one segment, and the edges of it.
 
-use crate::{MemoryMap, Segment};
+use memory_map::{MemoryMap, Segment};
 use mote_layout::KERNEL;
 use std::test::Fail;
 

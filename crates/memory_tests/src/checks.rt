@@ -1,9 +1,9 @@
 //! The edges of a block, of the window and of the stack.
 
-use crate::{SpCheck, Window, check_sp, check_store};
 use memory_map::MemoryMap;
 use mote_layout::KERNEL;
 use std::test::Fail;
+use store_check::{SpCheck, Window, check_sp, check_store};
 
 #[test]
 fn checks_the_edges(rt: HostRuntime) -> Result<(), Fail> {
