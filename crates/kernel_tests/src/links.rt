@@ -3,7 +3,7 @@
 ghost use Rattle.std.specs.Prelude.{IfOk};
 ghost use Rattle.module_image.specs.Contents.{FaceRules};
 
-use crate::Links;
+use func_link::Links;
 use module_image::{Face, ImageError, parse};
 use std::test::Fail;
 

@@ -1,6 +1,6 @@
 //! Entries of two domains, and one domain cleared.
 
-use crate::JumpTable;
+use jump_table::JumpTable;
 use std::test::Fail;
 
 #[test]

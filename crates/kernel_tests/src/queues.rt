@@ -1,6 +1,6 @@
 //! Full queues, their order, and messages taken by name.
 
-use crate::{Msg, Queues};
+use msg_queue::{Msg, Queues};
 use std::test::Fail;
 
 /// A short message without payload, told from the others by its word.

@@ -1,6 +1,6 @@
 //! Files with one field changed, cut or lengthened, and the way from values to a file and back.
 
-use crate::{Provided, Subscribed, parse, write_image};
+use module_image::{Provided, Subscribed, parse, write_image};
 use std::test::Fail;
 
 /// Module 1, with nothing provided or subscribed, and four words of code.

@@ -1,6 +1,6 @@
 //! Timers replaced, refused, fired in order, repeated and purged.
 
-use crate::{Fired, Started, TimerRow, Timers};
+use sos_timer::{Fired, Started, TimerRow, Timers};
 use std::test::Fail;
 
 #[test]

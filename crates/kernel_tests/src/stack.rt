@@ -1,6 +1,6 @@
 //! Thirty-two frames, one more, and all of them taken.
 
-use crate::{Frame, Full, SafeStack};
+use safe_stack::{Frame, Full, SafeStack};
 use std::test::Fail;
 
 /// The frame of a call that comes back to the unit `back`.
