@@ -1,13 +1,20 @@
 //! Words of each instruction and their operands, worked out by hand from the instruction set manual.
 
-use crate::{DecodeError, Instr, decode, encode};
+ghost use Rattle.std.specs.List.{AllByRecursion};
+ghost use Rattle.avr_isa.specs.Operands.{IsEncodable};
+
+use avr_isa::{DecodeError, Instr, decode, encode};
 use std::process::Abort;
 
-/// Decodes the words of each row to its instruction, and encodes that to the words again.
-fn check_rows(rt: &impl Abort, rows: &[(u16, Option<u16>, Instr)]) {
+/// Decodes the words of each row to its instruction, and encodes that to the words again. Words have one instruction
+/// at most, so the instructions are the same where their words are.
+#[tactic(auto, using(crate::proofs::Rows::at_place))]
+fn check_rows(rt: &impl Abort, rows: &[(u16, Option<u16>, Instr)])
+    requires { AllByRecursion (λ row. IsEncodable row.2) rows.now }
+{
     for (first, second, expected) in rows {
         let (found, count) = decode(*first, *second).expect(rt, "an instruction");
-        assert!(rt; found == *expected, "at {first:#06x}");
+        assert!(rt; encode(expected) == (*first, *second), "at {first:#06x}");
         assert_eq!(rt;
             count,
             if second.is_some() { 2 } else { 1 },
@@ -18,6 +25,7 @@ fn check_rows(rt: &impl Abort, rows: &[(u16, Option<u16>, Instr)]) {
 }
 
 #[test]
+#[tactic(auto, unfolding(avr_isa::specs::Operands::IsEncodable))]
 fn registers_and_constants(rt: HostRuntime) {
     let rows = [
         (0x0000, None, Instr::Nop),
@@ -52,6 +60,7 @@ fn registers_and_constants(rt: HostRuntime) {
 }
 
 #[test]
+#[tactic(auto, unfolding(avr_isa::specs::Operands::IsEncodable))]
 fn loads_and_stores(rt: HostRuntime) {
     let rows = [
         (0x8185, None, Instr::LddZ(24, 5)),
@@ -85,6 +94,7 @@ fn loads_and_stores(rt: HostRuntime) {
 }
 
 #[test]
+#[tactic(auto, unfolding(avr_isa::specs::Operands::IsEncodable))]
 fn one_register_and_control(rt: HostRuntime) {
     let rows = [
         (0x9500, None, Instr::Com(16)),
@@ -114,6 +124,7 @@ fn one_register_and_control(rt: HostRuntime) {
 }
 
 #[test]
+#[tactic(auto, unfolding(avr_isa::specs::Operands::IsEncodable))]
 fn ports_jumps_and_bits(rt: HostRuntime) {
     let rows = [
         (0x98C0, None, Instr::Cbi(0x18, 0)),
@@ -135,6 +146,7 @@ fn ports_jumps_and_bits(rt: HostRuntime) {
 }
 
 #[test]
+#[tactic(auto, unfolding(avr_isa::specs::Operands::IsEncodable))]
 fn ends_of_the_ranges(rt: HostRuntime) {
     let rows = [
         (0xF200, None, Instr::Brbs(0, -64)),

@@ -3,12 +3,11 @@ ghost use Rattle.std.specs.Prelude.{◌≡◌, ℕ, IsOk, IsTrue};
 ghost use Rattle.avr_machine.specs.Conditions.{IsRunnable, IsSkip, StoresInside};
 ghost use Rattle.avr_machine.specs.DataRead.{IsInMemory};
 ghost use Rattle.avr_machine.specs.Processor.{with_pc};
-ghost use Rattle.avr_machine.specs.Step.{CanStep, fetched};
+ghost use Rattle.avr_machine.specs.Step.{CanStep, Fetches, fetched};
 
-use crate::parts::{X, Y, Z};
-use crate::{Cpu, Flash, Stepped};
 use avr_isa::{Instr, decode};
-use mote_layout::{RAM_END, RAM_START};
+use avr_machine::{Cpu, Flash, Stepped};
+use mote_layout::{POINTER_X, POINTER_Y, POINTER_Z, RAM_END, RAM_START};
 use std::alloc::Global;
 use std::process::Abort;
 use std::test::Fail;
@@ -329,7 +328,7 @@ fn is_in_memory(address: u16) -> bool
 }
 
 /// Whether an instruction of the table may be run, where the next words decode or don't.
-#[tactic(auto, unfolding(crate::specs::Effect::writes, crate::specs::Conditions::IsStraight, crate::specs::Conditions::IsRunnable, crate::specs::Conditions::IsSkip, crate::specs::Conditions::StoresInside))]
+#[tactic(auto, unfolding(avr_machine::specs::Effect::writes, avr_machine::specs::Conditions::IsStraight, avr_machine::specs::Conditions::IsRunnable, avr_machine::specs::Conditions::IsSkip, avr_machine::specs::Conditions::StoresInside))]
 fn can_run(i: &Instr, cpu: &Cpu, next: bool) -> bool
     ensures runnable { IsTrue result → IsRunnable i.now }
     ensures inside { IsTrue result → (pc : ℕ) → StoresInside i.now (with_pc cpu.now pc) }
@@ -340,15 +339,15 @@ fn can_run(i: &Instr, cpu: &Cpu, next: bool) -> bool
         Instr::LdXInc(d) | Instr::LdXDec(d) => d != 26 && d != 27,
         Instr::LdYInc(d) | Instr::LdYDec(d) => d != 28 && d != 29,
         Instr::LdZInc(d) | Instr::LdZDec(d) => d != 30 && d != 31,
-        Instr::StX(_) => is_in_memory(cpu.pair(X).wrapping_add(0)),
-        Instr::StXInc(r) => r != 26 && r != 27 && is_in_memory(cpu.pair(X)),
-        Instr::StXDec(r) => r != 26 && r != 27 && is_in_memory(cpu.pair(X).wrapping_sub(1)),
-        Instr::StdY(_, q) => is_in_memory(cpu.pair(Y).wrapping_add(u16::from(q))),
-        Instr::StYInc(r) => r != 28 && r != 29 && is_in_memory(cpu.pair(Y)),
-        Instr::StYDec(r) => r != 28 && r != 29 && is_in_memory(cpu.pair(Y).wrapping_sub(1)),
-        Instr::StdZ(_, q) => is_in_memory(cpu.pair(Z).wrapping_add(u16::from(q))),
-        Instr::StZInc(r) => r != 30 && r != 31 && is_in_memory(cpu.pair(Z)),
-        Instr::StZDec(r) => r != 30 && r != 31 && is_in_memory(cpu.pair(Z).wrapping_sub(1)),
+        Instr::StX(_) => is_in_memory(cpu.pair(POINTER_X).wrapping_add(0)),
+        Instr::StXInc(r) => r != 26 && r != 27 && is_in_memory(cpu.pair(POINTER_X)),
+        Instr::StXDec(r) => r != 26 && r != 27 && is_in_memory(cpu.pair(POINTER_X).wrapping_sub(1)),
+        Instr::StdY(_, q) => is_in_memory(cpu.pair(POINTER_Y).wrapping_add(u16::from(q))),
+        Instr::StYInc(r) => r != 28 && r != 29 && is_in_memory(cpu.pair(POINTER_Y)),
+        Instr::StYDec(r) => r != 28 && r != 29 && is_in_memory(cpu.pair(POINTER_Y).wrapping_sub(1)),
+        Instr::StdZ(_, q) => is_in_memory(cpu.pair(POINTER_Z).wrapping_add(u16::from(q))),
+        Instr::StZInc(r) => r != 30 && r != 31 && is_in_memory(cpu.pair(POINTER_Z)),
+        Instr::StZDec(r) => r != 30 && r != 31 && is_in_memory(cpu.pair(POINTER_Z).wrapping_sub(1)),
         Instr::Sts(_, k) => is_in_memory(k),
         Instr::Push(_) => is_in_memory(cpu.sp),
         Instr::Call(_) | Instr::Rcall(_) => {
@@ -363,7 +362,7 @@ fn can_run(i: &Instr, cpu: &Cpu, next: bool) -> bool
     }
 }
 
-#[tactic(auto, unfolding(crate::specs::Step::fetched))]
+#[tactic(auto, unfolding(avr_machine::specs::Step::fetched))]
 fn decodes(flash: &Flash, address: u16) -> bool
     ensures { IsTrue result → IsOk (fetched flash.now address) }
 {
@@ -374,13 +373,28 @@ fn decodes(flash: &Flash, address: u16) -> bool
     .is_ok()
 }
 
+/// The instruction at an address, and its number of words.
+#[tactic(auto, unfolding(avr_machine::specs::Step::fetched))]
+fn fetch(flash: &Flash, address: u16) -> (Instr, u8)
+    requires { IsOk (fetched flash.now address) }
+    ensures { Fetches flash.now address result.0 result.1 }
+{
+    match decode(
+        flash.word(address),
+        Some(flash.word(address.wrapping_add(1))),
+    ) {
+        Ok(found) => found,
+        Err(_) => unreachable!(),
+    }
+}
+
 fn can_step(cpu: &Cpu, flash: &Flash) -> bool
     ensures { IsTrue result → CanStep flash.now cpu.now }
 {
     if !decodes(flash, cpu.pc) {
         return false;
     }
-    let (instruction, words) = flash.fetch(cpu.pc);
+    let (instruction, words) = fetch(flash, cpu.pc);
     let next = decodes(flash, cpu.pc.wrapping_add(u16::from(words)));
     can_run(&instruction, cpu, next)
 }

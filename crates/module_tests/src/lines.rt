@@ -3,12 +3,12 @@
 ghost use Rattle.std.specs.List.{AllByRecursion};
 ghost use Rattle.unit_code.specs.Proper.{IsOfKind};
 
-use crate::list_line;
 use Unit::{
     Branch, Jump, KernelCall, LocalCall, Plain, Pop, Push, Reserve, Return, Skip, SlotCall,
     SlotIndirect, SpGroup, Store,
 };
 use avr_isa::Instr;
+use avr_list::list_line;
 use mote_base::Line;
 use std::process::Abort;
 use unit_code::Unit;

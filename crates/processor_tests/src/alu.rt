@@ -1,5 +1,5 @@
 //! One case at least for each rule of the manual, with values worked out by hand from it.
-use crate::{Logic, Mul, One, add8, logic8, mul8, one8, sub8, with_bit, word_add, word_sub};
+use avr_alu::{Logic, Mul, One, add8, logic8, mul8, one8, sub8, with_bit, word_add, word_sub};
 
 /// A call with its operands, but for SREG.
 #[derive(Clone, Copy, Debug)]
