@@ -6,6 +6,7 @@ pub mod Lines
 pub mod Messages
 pub mod Shelves
 pub mod Sinks
+pub mod Statuses
 pub mod Table
 pub mod Timers
 pub mod Words
