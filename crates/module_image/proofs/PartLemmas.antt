@@ -2,6 +2,7 @@
 use Rattle.std.proofs.Common.{◌≡◌, ℕ, zero, suc, ◌+◌, ◌≤◌, Bool, true, false, eqb, List, [], ◌∷◌, ◌++◌, length, Ok, refl, sym, ap, subst, ◌∙◌, append_assoc, arith}
 use Rattle.std.specs.List.{flat_map, AllByRecursion}
 use Rattle.std.proofs.lemmas.List.Concat.{flat_map-cons}
+use Rattle.mote_layout.specs.Limits.{provided_limit, subscribed_limit}
 use Rattle.module_image.specs.declared.face.Provided.{Provided}
 use Rattle.module_image.specs.declared.face.Subscribed.{Subscribed}
 use Rattle.module_image.specs.declared.parts.Settings.{Settings}
@@ -70,18 +71,18 @@ abbrev pub counts_text : Counts → List ℕ
 counts_text c = counts c.provided c.subscribed c.words
 
 pub record CountsFit (c : Counts) : Type 0 where
-  pub provided : c.provided ≤ 16
-  pub subscribed : c.subscribed ≤ 16
+  pub provided : c.provided ≤ provided_limit
+  pub subscribed : c.subscribed ≤ subscribed_limit
   pub words : IsWord c.words
 
 pub counts_takes : (bytes : List ℕ) (x : Counts × List ℕ) → IsBytes bytes → counts_at bytes ≡ Ok x → Takes bytes (counts_text x.0) x.1 × CountsFit x.0
 unfolding counts_at
 counts_takes bytes x fits e =
-    let a = bind_ok (byte_at 11 0 16 bytes) (λ a. byte_at 12 0 16 a.1 >>= λ b. number_at 13 b.1 >>= λ c. Ok (record { provided = a.0; subscribed = b.0; words = c.0 }, c.1)) x e in
-    let b = bind_ok (byte_at 12 0 16 a.0.1) (λ b. number_at 13 b.1 >>= λ c. Ok (record { provided = a.0.0; subscribed = b.0; words = c.0 }, c.1)) x a.2 in
+    let a = bind_ok (byte_at 11 0 provided_limit bytes) (λ a. byte_at 12 0 subscribed_limit a.1 >>= λ b. number_at 13 b.1 >>= λ c. Ok (record { provided = a.0; subscribed = b.0; words = c.0 }, c.1)) x e in
+    let b = bind_ok (byte_at 12 0 subscribed_limit a.0.1) (λ b. number_at 13 b.1 >>= λ c. Ok (record { provided = a.0.0; subscribed = b.0; words = c.0 }, c.1)) x a.2 in
     let c = bind_ok (number_at 13 b.0.1) (λ c. Ok (record { provided = a.0.0; subscribed = b.0.0; words = c.0 }, c.1)) x b.2 in
-    let ta = byte_takes 11 0 16 bytes a.0 fits a.1 in
-    let tb = byte_takes 12 0 16 a.0.1 b.0 ta.0.rest_fits b.1 in
+    let ta = byte_takes 11 0 provided_limit bytes a.0 fits a.1 in
+    let tb = byte_takes 12 0 subscribed_limit a.0.1 b.0 ta.0.rest_fits b.1 in
     let tc = number_takes 13 b.0.1 c.0 tb.0.rest_fits c.1 in
     let ebc = Takes-then a.0.1 (b.0.0 ∷ []) b.0.1 (word c.0.0) c.0.1 tb.0 tc.0 in
     let eac = Takes-then bytes (a.0.0 ∷ []) a.0.1 (b.0.0 ∷ word c.0.0) c.0.1 ta.0 ebc in
@@ -91,8 +92,8 @@ pub counts_again : (c : Counts) (rest : List ℕ) → CountsFit c → counts_at 
 unfolding counts_at
 counts_again c rest fits =
     rw (
-      byte_again 11 0 16 c.provided (c.subscribed ∷ (word c.words ++ rest)) (omega arith) fits.provided,
-      byte_again 12 0 16 c.subscribed (word c.words ++ rest) (omega arith) fits.subscribed,
+      byte_again 11 0 provided_limit c.provided (c.subscribed ∷ (word c.words ++ rest)) (omega arith) fits.provided,
+      byte_again 12 0 subscribed_limit c.subscribed (word c.words ++ rest) (omega arith) fits.subscribed,
       number_again 13 c.words rest fits.words,
     ) refl
 

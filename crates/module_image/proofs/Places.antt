@@ -4,6 +4,7 @@ use Rattle.std.specs.List.{flat_map, AllByRecursion}
 use Rattle.std.proofs.lemmas.List.Concat.{flat_map-cons}
 use Rattle.std.proofs.lemmas.List.{length-append}
 use Rattle.mote_base.specs.Words.{words_of}
+use Rattle.mote_layout.specs.Limits.{provided_limit, subscribed_limit}
 use Rattle.module_image.specs.declared.error.ImageError.{ImageError}
 use Rattle.module_image.specs.declared.error.ImageError.TheVariants.{Short, Magic, Version, Field, Long}
 use Rattle.module_image.specs.declared.face.Provided.{Provided}
@@ -103,12 +104,12 @@ settings_short bytes at fits e =
 counts_short : (bytes : List ℕ) (at : ℕ) → IsBytes bytes → counts_at bytes ≡ Err (Short at) → at ≡ 11 + length bytes
 unfolding counts_at
 counts_short bytes at fits e =
-    short_then (byte_at 11 0 16 bytes) (λ a. byte_at 12 0 16 a.1 >>= λ b. number_at 13 b.1 >>= λ c. Ok (record { provided = a.0; subscribed = b.0; words = c.0 }, c.1)) at (11 + length bytes) e
-    (byte_short 11 0 16 bytes at)
-    (λ a ra ea. let ta = (byte_takes 11 0 16 bytes a fits ra).0 in let la = taken bytes (a.0 ∷ []) a.1 ta in
-    short_then (byte_at 12 0 16 a.1) (λ b. number_at 13 b.1 >>= λ c. Ok (record { provided = a.0; subscribed = b.0; words = c.0 }, c.1)) at (11 + length bytes) ea
-    (λ h. omega (arith, byte_short 12 0 16 a.1 at h, la))
-    (λ b rb eb. let lb = taken a.1 (b.0 ∷ []) b.1 (byte_takes 12 0 16 a.1 b ta.rest_fits rb).0 in
+    short_then (byte_at 11 0 provided_limit bytes) (λ a. byte_at 12 0 subscribed_limit a.1 >>= λ b. number_at 13 b.1 >>= λ c. Ok (record { provided = a.0; subscribed = b.0; words = c.0 }, c.1)) at (11 + length bytes) e
+    (byte_short 11 0 provided_limit bytes at)
+    (λ a ra ea. let ta = (byte_takes 11 0 provided_limit bytes a fits ra).0 in let la = taken bytes (a.0 ∷ []) a.1 ta in
+    short_then (byte_at 12 0 subscribed_limit a.1) (λ b. number_at 13 b.1 >>= λ c. Ok (record { provided = a.0; subscribed = b.0; words = c.0 }, c.1)) at (11 + length bytes) ea
+    (λ h. omega (arith, byte_short 12 0 subscribed_limit a.1 at h, la))
+    (λ b rb eb. let lb = taken a.1 (b.0 ∷ []) b.1 (byte_takes 12 0 subscribed_limit a.1 b ta.rest_fits rb).0 in
     short_then (number_at 13 b.1) (λ c. Ok (record { provided = a.0; subscribed = b.0; words = c.0 }, c.1)) at (11 + length bytes) eb
     (λ h. omega (arith, number_short 13 b.1 at h, la, lb))
     (λ c rc ec. absurd cc)))

@@ -1,6 +1,7 @@
 -- What an image holds, and the rules that its fields keep.
 use Rattle.std.specs.Prelude.{ℕ, ◌+◌, ◌<◌, ◌≤◌, ◌^◌, Bool, List, [], ◌∷◌, length}
 use Rattle.std.specs.List.{AllByRecursion}
+use Rattle.mote_layout.specs.Limits.{provided_limit, subscribed_limit}
 use Rattle.module_image.specs.declared.face.Provided.{Provided}
 use Rattle.module_image.specs.declared.face.Subscribed.{Subscribed}
 use Rattle.module_image.specs.declared.face.Face.{Face}
@@ -41,8 +42,8 @@ IsSubscribed s = IsModuleId s.module × (s.func ≤ 255) × IsPrototype s.proto
 -- the rules of a face's fields
 pub record FaceRules (f : Face) : Type 0 where
   pub id : IsModuleId f.id
-  pub provided_count : length f.provided.items ≤ 16
-  pub subscribed_count : length f.subscribed.items ≤ 16
+  pub provided_count : length f.provided.items ≤ provided_limit
+  pub subscribed_count : length f.subscribed.items ≤ subscribed_limit
   pub provided : AreProvided 0 f.provided.items
   pub subscribed : AllByRecursion IsSubscribed f.subscribed.items
 

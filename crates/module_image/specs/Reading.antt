@@ -3,6 +3,7 @@ use Rattle.std.specs.Prelude.{◌≡◌, ℕ, zero, suc, ◌+◌, ◌*◌, List,
 use Rattle.std.specs.Cmp.Lexicographic.{pointwise}
 use Rattle.byteorder.specs.Endian.{little_number}
 use Rattle.mote_base.specs.Words.{words_of}
+use Rattle.mote_layout.specs.Limits.{provided_limit, subscribed_limit}
 use Rattle.module_image.specs.declared.error.ImageError.{ImageError}
 use Rattle.module_image.specs.declared.error.ImageError.TheVariants.{Short, Magic, Version, Field, Long}
 use Rattle.module_image.specs.declared.face.Provided.{Provided}
@@ -66,8 +67,8 @@ settings_at bytes = do
 
 unfoldable pub counts_at : List ℕ → Result (Counts × List ℕ) ImageError
 counts_at bytes = do
-  provided ← byte_at 11 0 16 bytes
-  subscribed ← byte_at 12 0 16 provided.1
+  provided ← byte_at 11 0 provided_limit bytes
+  subscribed ← byte_at 12 0 subscribed_limit provided.1
   words ← number_at 13 subscribed.1
   Ok (record { provided = provided.0; subscribed = subscribed.0; words = words.0 }, words.1)
 

@@ -10,8 +10,6 @@ mod field;
 mod laws;
 mod parts;
 mod reading;
-#[cfg(test)]
-mod tests;
 mod view;
 mod writing;
 
@@ -19,5 +17,5 @@ pub use error::ImageError;
 pub use face::{Face, Provided, Subscribed};
 pub use laws::one_reading;
 pub use reading::parse;
-pub use view::ImageView;
+pub use view::{ImageView, MARKS};
 pub use writing::write_image;

@@ -1,9 +1,11 @@
 //! The parts of an image, each a few fields that stand together.
 ghost use Rattle.std.specs.Prelude.{◌≡◌, ◌<◌, ◌≤◌, ◌^◌, IfOk};
+ghost use Rattle.mote_layout.specs.Limits.{provided_limit, subscribed_limit};
 ghost use Rattle.module_image.specs.Reading.{Gives, opening_at, settings_at, counts_at, provided_one, subscribed_one};
 
 use crate::field::{byte, number, prototype};
 use crate::{ImageError, Provided, Subscribed};
+use mote_layout::{PROVIDED, SUBSCRIBED};
 
 const MAGIC: [u8; 4] = *b"SOSM";
 
@@ -63,10 +65,10 @@ pub fn read_settings(bytes: &[u8]) -> Result<(Settings, &[u8]), ImageError>
 #[tactic(auto, unfolding(crate::specs::Reading::counts_at))]
 pub fn read_counts(bytes: &[u8]) -> Result<(Counts, &[u8]), ImageError>
     ensures exact { Gives (λ x. (x.0, x.1.now)) result (counts_at bytes.now) }
-    ensures bounds { IfOk result (λ x. (x.0.provided ≤ 16) × (x.0.subscribed ≤ 16)) }
+    ensures bounds { IfOk result (λ x. (x.0.provided ≤ provided_limit) × (x.0.subscribed ≤ subscribed_limit)) }
 {
-    let (provided, rest) = byte(11, 0, 16, bytes)?;
-    let (subscribed, rest) = byte(12, 0, 16, rest)?;
+    let (provided, rest) = byte(11, 0, PROVIDED as u8, bytes)?;
+    let (subscribed, rest) = byte(12, 0, SUBSCRIBED as u8, rest)?;
     let (words, rest) = number(13, rest)?;
     let counts = Counts {
         provided,

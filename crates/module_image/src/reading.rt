@@ -2,6 +2,7 @@
 ghost use Rattle.std.specs.Prelude.{◌≡◌, ℕ, ◌≤◌, ◌<◌, ◌^◌, length, IfOk, Ok, Err};
 ghost use Rattle.module_image.specs.declared.error.ImageError.TheVariants.{Short};
 ghost use Rattle.mote_base.specs.Words.{words_of};
+ghost use Rattle.mote_layout.specs.Limits.{provided_limit, subscribed_limit};
 ghost use Rattle.module_image.specs.Contents.{Contents};
 ghost use Rattle.module_image.specs.Spelling.{Image};
 ghost use Rattle.module_image.specs.Reading.{Gives, code_at, image_of, provided_at, subscribed_at};
@@ -9,6 +10,7 @@ ghost use Rattle.module_image.specs.Reading.{Gives, code_at, image_of, provided_
 use crate::parts::{read_counts, read_opening, read_provided, read_settings, read_subscribed};
 use crate::{Face, ImageError, ImageView, Provided, Subscribed};
 use arrayvec::ArrayVec;
+use mote_layout::{PROVIDED, SUBSCRIBED};
 
 /// The place of the first entry.
 const ENTRIES: u32 = 15;
@@ -18,10 +20,10 @@ const PROVIDED_BYTES: u32 = 7;
 const SUBSCRIBED_BYTES: u32 = 6;
 
 /// The entries that are read, and the bytes after them.
-type Entries<'a, T> = (ArrayVec<T, 16>, &'a [u8]);
+type Entries<'a, T, const N: usize> = (ArrayVec<T, N>, &'a [u8]);
 
-fn provided_list(count: u8, bytes: &[u8]) -> Result<Entries<'_, Provided>, ImageError>
-    requires { count ≤ 16 }
+fn provided_list(count: u8, bytes: &[u8]) -> Result<Entries<'_, Provided, PROVIDED>, ImageError>
+    requires { count ≤ provided_limit }
     ensures { Gives (λ x. (x.0.items, x.1.now)) result (provided_at count 15 0 bytes.now) }
 {
     let mut list = ArrayVec::new();
@@ -42,8 +44,8 @@ fn subscribed_list(
     count: u8,
     start: u32,
     bytes: &[u8],
-) -> Result<Entries<'_, Subscribed>, ImageError>
-    requires count { count ≤ 16 }
+) -> Result<Entries<'_, Subscribed, SUBSCRIBED>, ImageError>
+    requires count { count ≤ subscribed_limit }
     requires start { start < 2 ^ 15 }
     ensures { Gives (λ x. (x.0.items, x.1.now)) result (subscribed_at count start bytes.now) }
 {

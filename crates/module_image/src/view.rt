@@ -6,7 +6,11 @@ use crate::parts::Settings;
 use crate::{Face, Provided, Subscribed};
 use arrayvec::ArrayVec;
 use mote_base::Words;
+use mote_layout::PROVIDED;
 use std::marker::Model;
+
+/// How many marks an image has at most: its handler's word and those of the functions that it provides.
+pub const MARKS: usize = PROVIDED + 1;
 
 /// An image that was read. Its code stays in the file. It is seen as the image's contents.
 #[derive(Drop)]
@@ -97,7 +101,7 @@ impl<'a> ImageView<'a> {
     }
 
     /// The code words at which the kernel or another module enters: the handler word, then the provided words.
-    pub fn marks(&self) -> ArrayVec<u16, 17>
+    pub fn marks(&self) -> ArrayVec<u16, MARKS>
         ensures { result.items ≡ self.now.handler ∷ map (λ p. p.word) self.now.face.provided.items }
     {
         let mut marks = ArrayVec::new();

@@ -3,9 +3,9 @@
 ghost use Rattle.std.specs.Prelude.{◌≡◌, ◌<◌, ◌≤◌, ◌↔◌, [], length, slice_get, option_copied, None, IfOk, IfErr, IsOk};
 ghost use Rattle.mote_base.specs.Messages.{Lists, AreWithinLimit, queue_limit, list_of, in_order, posted, front, without_front, first, without, names};
 
-use crate::ring::{QUEUE_MESSAGES, take_first};
+use crate::ring::take_first;
 use circular_buffer::HeapCircularBuffer;
-use mote_base::{Msg, NoMemory};
+use mote_base::{Msg, NoMemory, QUEUE_MESSAGES};
 use std::alloc::Global;
 use std::marker::Model;
 

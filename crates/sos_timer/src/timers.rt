@@ -7,11 +7,8 @@ ghost use Rattle.sos_timer.specs.declared.timers.Started.TheVariants as outcome;
 ghost use Rattle.mote_base.specs.declared.timer.Timer.{Timer};
 
 use arrayvec::ArrayVec;
-use mote_base::Timer;
+use mote_base::{TIMERS, Timer};
 use std::marker::Model;
-
-/// How many timers may run at once.
-const TIMERS: usize = 16;
 
 /// What became of a start.
 #[derive(Clone, Copy, Debug, PartialEq, Eq)]
