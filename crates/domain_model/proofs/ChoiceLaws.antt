@@ -1,7 +1,7 @@
 -- What each choice of a turn says of the state holds where it is chosen.
 use Rattle.std.proofs.Common.{◌≡◌, ◌≢◌, ◌<◌, ◌==◌, nat_le, slice_get, refl, Bool, true, false, Option, Some, None, List, [], ◌∷◌}
 use Rattle.std.proofs.lemmas.Bool.{leb-true, leb-false, eqb-true, eqb-false}
-use Rattle.domain_model.specs.declared.event.Event.{Event}
+use Rattle.domain_model.specs.declared.event.LoaderEvent.{LoaderEvent}
 use Rattle.domain_model.specs.declared.handler.Running.{Running}
 use Rattle.domain_model.specs.declared.event.Turned.{Turned}
 use Rattle.domain_model.specs.declared.event.Turned.TheVariants.{More, EndIdle, EndBudget}
@@ -12,7 +12,7 @@ use Rattle.domain_model.specs.Facts.{NoneDue, Facts}
 
 module _ (s : State) (live : s.ended ≡ More) where
   -- nothing is due now, and the first event is later
-  later_facts : (o : Option Message) (e : Event) → s.kernel.running ≡ None → front s.kernel.queues ≡ o → slice_get s.events 0 ≡ Some e → NoneDue s.events s.kernel.clock → s.kernel.clock < e.time → Facts (choose_message o (e ∷ [])) s
+  later_facts : (o : Option Message) (e : LoaderEvent) → s.kernel.running ≡ None → front s.kernel.queues ≡ o → slice_get s.events 0 ≡ Some e → NoneDue s.events s.kernel.clock → s.kernel.clock < e.time → Facts (choose_message o (e ∷ [])) s
   later_facts (Some m) e out waiting first none_due later = record { live = live; outside = out; none_due = none_due; message = m; first = waiting }
   later_facts None e out waiting first none_due later = record {
     live = live;
@@ -24,7 +24,7 @@ module _ (s : State) (live : s.ended ≡ More) where
     later = later;
   }
 
-  event_facts : (b : Bool) (e : Event) (es : List Event) → s.kernel.running ≡ None → s.events ≡ e ∷ es → nat_le e.time s.kernel.clock ≡ b → Facts (choose_event b e (front s.kernel.queues)) s
+  event_facts : (b : Bool) (e : LoaderEvent) (es : List LoaderEvent) → s.kernel.running ≡ None → s.events ≡ e ∷ es → nat_le e.time s.kernel.clock ≡ b → Facts (choose_event b e (front s.kernel.queues)) s
   event_facts true e es out all h = record { live = live; outside = out; first = rw all refl; due = leb-true e.time s.kernel.clock h }
   event_facts false e es out all h =
       let later = leb-false e.time s.kernel.clock h in
@@ -35,7 +35,7 @@ module _ (s : State) (live : s.ended ≡ More) where
   last_facts (Some m) out waiting all = record { live = live; outside = out; none_due = rw all tt; message = m; first = waiting }
   last_facts None out waiting all = record { live = live; outside = out; none_waits = waiting; none = all }
 
-  outside_facts : (es : List Event) → s.kernel.running ≡ None → s.events ≡ es → Facts (choose_outside es s.kernel.clock (front s.kernel.queues)) s
+  outside_facts : (es : List LoaderEvent) → s.kernel.running ≡ None → s.events ≡ es → Facts (choose_outside es s.kernel.clock (front s.kernel.queues)) s
   outside_facts [] out all = last_facts (front s.kernel.queues) out refl all
   outside_facts (e ∷ es) out all = event_facts (nat_le e.time s.kernel.clock) e es out all refl
 

@@ -2,8 +2,8 @@
 use Rattle.std.proofs.Common.{◌≡◌, ℕ, List, [], Bool, true, false, refl, sym, ap, ◌∙◌, subst, Option, Some, None, Ok, Err, slice_get}
 use Rattle.std.proofs.lemmas.List.Elements.{Contains-push}
 use Rattle.mote_base.specs.Messages.{front}
-use Rattle.domain_model.specs.declared.event.What.{What}
-use Rattle.domain_model.specs.declared.event.What.TheVariants as what
+use Rattle.domain_model.specs.declared.event.LoaderOrder.{LoaderOrder}
+use Rattle.domain_model.specs.declared.event.LoaderOrder.TheVariants as what
 use Rattle.domain_model.specs.declared.event.Choice.{Choice}
 use Rattle.domain_model.specs.declared.event.Choice.TheVariants.{Stays, Comes, Dispatches, Jumps, Idles, Budgets, Watches, Acts}
 use Rattle.domain_model.specs.declared.fault.UnitEnd.{UnitEnd}
@@ -81,7 +81,7 @@ unload_starts (Some row) s id k r out e =
       to = sym n.id_of;
     }
 
-came_starts : (s : State) (images : List (Option Prep)) (w : What) (k : KernelState) (r : RunnerState) → k.running ≡ None → Starts s (came images w k r)
+came_starts : (s : State) (images : List (Option Prep)) (w : LoaderOrder) (k : KernelState) (r : RunnerState) → k.running ≡ None → Starts s (came images w k r)
 came_starts s images (what.Load n) k r out = image_starts (slice_get images n) s n k r out
 came_starts s images (what.Unload id) k r out = unload_starts (module_named k.modules id) s id k r out refl
 

@@ -4,9 +4,9 @@ use Rattle.std.proofs.lemmas.Bool.{cond-true, lt-ltb, le-ltb}
 use Rattle.std.proofs.lemmas.Option.{none-some, same_Some, slice_get_within}
 use Rattle.std.proofs.lemmas.List.{length-drop}
 use Rattle.mote_base.specs.Messages.{Lists, in_order, front, without_front}
-use Rattle.domain_model.specs.declared.event.Event.{Event}
-use Rattle.domain_model.specs.declared.event.What.{What}
-use Rattle.domain_model.specs.declared.event.What.TheVariants as what
+use Rattle.domain_model.specs.declared.event.LoaderEvent.{LoaderEvent}
+use Rattle.domain_model.specs.declared.event.LoaderOrder.{LoaderOrder}
+use Rattle.domain_model.specs.declared.event.LoaderOrder.TheVariants as what
 use Rattle.domain_model.specs.declared.event.Choice.{Choice}
 use Rattle.domain_model.specs.declared.event.Choice.TheVariants.{Stays, Comes, Dispatches, Jumps, Idles, Budgets, Watches, Acts}
 use Rattle.domain_model.specs.declared.event.Turned.TheVariants.{More}
@@ -29,16 +29,16 @@ one_at_most true = omega arith
 one_at_most false = omega arith
 
 -- a jump to the first event spends its lateness
-late_before : (events : List Event) (e : Event) (now : ℕ) → slice_get events 0 ≡ Some e → now < e.time → one_if (is_late events now) ≡ 1
+late_before : (events : List LoaderEvent) (e : LoaderEvent) (now : ℕ) → slice_get events 0 ≡ Some e → now < e.time → one_if (is_late events now) ≡ 1
 late_before [] e now first later = absurd (none-some e first)
 late_before (x ∷ xs) e now first later =
-    let same : x.time ≡ e.time = ap (λ (y : Event). y.time) (same_Some x e first) in
+    let same : x.time ≡ e.time = ap (λ (y : LoaderEvent). y.time) (same_Some x e first) in
     rw (lt-ltb now x.time (omega (arith, same, later))) refl
 
-late_after : (events : List Event) (e : Event) → slice_get events 0 ≡ Some e → one_if (is_late events e.time) ≡ 0
+late_after : (events : List LoaderEvent) (e : LoaderEvent) → slice_get events 0 ≡ Some e → one_if (is_late events e.time) ≡ 0
 late_after [] e first = absurd (none-some e first)
 late_after (x ∷ xs) e first =
-    let same : x.time ≡ e.time = ap (λ (y : Event). y.time) (same_Some x e first) in
+    let same : x.time ≡ e.time = ap (λ (y : LoaderEvent). y.time) (same_Some x e first) in
     rw (le-ltb e.time x.time (omega (arith, same))) refl
 
 -- Messages that wait.
@@ -69,7 +69,7 @@ unload_queues : (o : Option Loaded) (id : ℕ) (k : KernelState) (r : RunnerStat
 unload_queues None id k r = refl
 unload_queues (Some row) id k r = refl
 
-came_queues : (images : List (Option Prep)) (w : What) (k : KernelState) (r : RunnerState) → (came images w k r).kernel.queues ≡ k.queues
+came_queues : (images : List (Option Prep)) (w : LoaderOrder) (k : KernelState) (r : RunnerState) → (came images w k r).kernel.queues ≡ k.queues
 came_queues images (what.Load n) k r = image_queues (slice_get images n) n k r
 came_queues images (what.Unload id) k r = unload_queues (module_named k.modules id) id k r
 

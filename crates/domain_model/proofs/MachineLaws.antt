@@ -12,8 +12,8 @@ use Rattle.mote_layout.proofs.BlockLists.{AreBlocks-without_owner}
 use Rattle.unit_code.specs.declared.unit.Unit.{Unit}
 use Rattle.unit_code.specs.declared.unit.Unit.TheVariants.{Plain, Store, KernelCall, Return}
 use Rattle.domain_model.specs.declared.handler.Running.{Running}
-use Rattle.domain_model.specs.declared.event.What.{What}
-use Rattle.domain_model.specs.declared.event.What.TheVariants as what
+use Rattle.domain_model.specs.declared.event.LoaderOrder.{LoaderOrder}
+use Rattle.domain_model.specs.declared.event.LoaderOrder.TheVariants as what
 use Rattle.domain_model.specs.declared.fault.FaultNote.{FaultNote}
 use Rattle.domain_model.specs.declared.fault.UnitEnd.{UnitEnd}
 use Rattle.domain_model.specs.declared.fault.UnitEnd.TheVariants.{On, Over, Fault}
@@ -391,7 +391,7 @@ module _ (k : KernelState) (r : RunnerState) (quiet : k.ending ≡ None) (h : Go
   dispatch_moved None first = h
   dispatch_moved (Some m) first = deliver_moved (module_named k.modules m.to) m first refl
 
-  came_moved : (images : List (Option Prep)) (w : What) → AllByRecursion IsGoodImage images → GoodMoved (came images w k r)
+  came_moved : (images : List (Option Prep)) (w : LoaderOrder) → AllByRecursion IsGoodImage images → GoodMoved (came images w k r)
   came_moved images (what.Load n) good = image_moved (slice_get images n) images n good refl
   came_moved images (what.Unload id) good = unload_moved (module_named k.modules id) id refl
 
@@ -399,7 +399,7 @@ module _ (k : KernelState) (r : RunnerState) (quiet : k.ending ≡ None) (h : Go
 pub none_ends : (k : KernelState) (r : RunnerState) → GoodMachine k r → k.running ≡ None → k.ending ≡ None
 none_ends k r h out = (subst (GoodHandler k r) out h.handler).1
 
-pub came_good : (images : List (Option Prep)) (w : What) (k : KernelState) (r : RunnerState) → GoodMachine k r → k.running ≡ None → AllByRecursion IsGoodImage images → GoodMachine (came images w k r).kernel (came images w k r).runner
+pub came_good : (images : List (Option Prep)) (w : LoaderOrder) (k : KernelState) (r : RunnerState) → GoodMachine k r → k.running ≡ None → AllByRecursion IsGoodImage images → GoodMachine (came images w k r).kernel (came images w k r).runner
 came_good images w k r h out good = came_moved k r (none_ends k r h out) h images w good
 
 pub dispatch_good : (k : KernelState) (r : RunnerState) → GoodMachine k r → k.running ≡ None → GoodMachine (dispatch (front k.queues) k r).kernel (dispatch (front k.queues) k r).runner

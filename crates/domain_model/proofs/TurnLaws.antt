@@ -1,9 +1,9 @@
 -- Every turn keeps a state good, and from each good state that is live there is a turn.
 use Rattle.std.proofs.Common.{Ok, Err, ◌≡◌, ℕ, ◌^◌, ◌<◌, List, [], length, Bool, true, false, refl, sym, ap, ◌∙◌, subst, arith, Option, Some, None, slice_get}
 use Rattle.mote_base.specs.Messages.{front}
-use Rattle.domain_model.specs.declared.event.Event.{Event}
-use Rattle.domain_model.specs.declared.event.What.{What}
-use Rattle.domain_model.specs.declared.event.What.TheVariants as what
+use Rattle.domain_model.specs.declared.event.LoaderEvent.{LoaderEvent}
+use Rattle.domain_model.specs.declared.event.LoaderOrder.{LoaderOrder}
+use Rattle.domain_model.specs.declared.event.LoaderOrder.TheVariants as what
 use Rattle.domain_model.specs.declared.event.Choice.{Choice}
 use Rattle.domain_model.specs.declared.event.Choice.TheVariants.{Stays, Comes, Dispatches, Jumps, Idles, Budgets, Watches, Acts}
 use Rattle.domain_model.specs.declared.fault.UnitEnd.{UnitEnd}
@@ -50,7 +50,7 @@ unload_clock : (o : Option Loaded) (id : ℕ) (k : KernelState) (r : RunnerState
 unload_clock None id k r = refl
 unload_clock (Some row) id k r = refl
 
-pub came_clock : (images : List (Option Prep)) (w : What) (k : KernelState) (r : RunnerState) → (came images w k r).kernel.clock ≡ k.clock
+pub came_clock : (images : List (Option Prep)) (w : LoaderOrder) (k : KernelState) (r : RunnerState) → (came images w k r).kernel.clock ≡ k.clock
 came_clock images (what.Load n) k r = image_clock (slice_get images n) n k r
 came_clock images (what.Unload id) k r = unload_clock (module_named k.modules id) id k r
 
@@ -83,7 +83,7 @@ made_good Stays s got g facts may = g
 made_good (Comes e) s got g facts may = record {
   machine = came_good s.images e.what s.kernel s.runner g.machine facts.outside g.images;
   images = g.images;
-  times = each_drop (λ (x : Event). x.time < 2 ^ 32) s.events g.times;
+  times = each_drop (λ (x : LoaderEvent). x.time < 2 ^ 32) s.events g.times;
   clock = rw (came_clock s.images e.what s.kernel s.runner) g.clock;
   total = g.total;
   units = g.units;
@@ -101,7 +101,7 @@ made_good Dispatches s got g facts may = record {
   handler = g.handler;
 }
 made_good (Jumps now) s got g facts may =
-    let time : facts.event.time < 2 ^ 32 = each_at (λ (x : Event). x.time < 2 ^ 32) s.events 0 facts.event g.times facts.first in
+    let time : facts.event.time < 2 ^ 32 = each_at (λ (x : LoaderEvent). x.time < 2 ^ 32) s.events 0 facts.event g.times facts.first in
     record {
       machine = clock_good s.kernel s.runner now g.machine;
       images = g.images;

@@ -11,8 +11,8 @@ use Rattle.module_image.specs.declared.face.Subscribed.{Subscribed}
 use Rattle.module_image.specs.Links.{Seat, bound_slot, place_of, provider_of, seat_in, seat_of}
 use Rattle.mote_layout.specs.Memory.{kernel}
 use Rattle.mote_layout.specs.declared.segment.Segment.{Segment}
-use Rattle.domain_model.specs.declared.event.What.{What}
-use Rattle.domain_model.specs.declared.event.What.TheVariants as what
+use Rattle.domain_model.specs.declared.event.LoaderOrder.{LoaderOrder}
+use Rattle.domain_model.specs.declared.event.LoaderOrder.TheVariants as what
 use Rattle.domain_model.specs.declared.event.Choice.{Choice}
 use Rattle.domain_model.specs.declared.event.Choice.TheVariants.{Stays, Comes, Dispatches, Jumps, Idles, Budgets, Watches, Acts}
 use Rattle.domain_model.specs.declared.fault.FaultNote.{FaultNote}
@@ -182,7 +182,7 @@ unload_quiet : (o : Option Loaded) (id : ℕ) (k : KernelState) (r : RunnerState
 unload_quiet None id k r = quiet_by (line.Absent k.clock id ∷ []) refl
 unload_quiet (Some row) id k r = quiet_by (line.Run k.clock id 1 0 ∷ []) refl
 
-pub came_quiet : (images : List (Option Prep)) (w : What) (k : KernelState) (r : RunnerState) → IsQuiet (came images w k r).lines
+pub came_quiet : (images : List (Option Prep)) (w : LoaderOrder) (k : KernelState) (r : RunnerState) → IsQuiet (came images w k r).lines
 came_quiet images (what.Load n) k r = image_quiet (slice_get images n) n k r
 came_quiet images (what.Unload id) k r = unload_quiet (module_named k.modules id) id k r
 

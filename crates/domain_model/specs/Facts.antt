@@ -1,7 +1,7 @@
 -- What each choice of a turn says of the state.
 use Rattle.std.specs.Prelude.{◌≡◌, ◌≢◌, ℕ, ◌<◌, ◌≤◌, ⊤, List, [], ◌∷◌, Some, None, slice_get}
 use Rattle.domain_model.specs.declared.handler.Running.{Running}
-use Rattle.domain_model.specs.declared.event.Event.{Event}
+use Rattle.domain_model.specs.declared.event.LoaderEvent.{LoaderEvent}
 use Rattle.domain_model.specs.declared.event.Choice.{Choice}
 use Rattle.domain_model.specs.declared.event.Choice.TheVariants.{Stays, Comes, Dispatches, Jumps, Idles, Budgets, Watches, Acts}
 use Rattle.domain_model.specs.declared.event.Turned.TheVariants.{More}
@@ -9,14 +9,14 @@ use Rattle.mote_base.specs.Messages.{front}
 use Rattle.domain_model.specs.State.{Message, State}
 
 -- Outside a handler the first event is due.
-pub record IsDue (e : Event) (s : State) : Type 0 where
+pub record IsDue (e : LoaderEvent) (s : State) : Type 0 where
   pub live : s.ended ≡ More
   pub outside : s.kernel.running ≡ None
   pub first : slice_get s.events 0 ≡ Some e
   pub due : e.time ≤ s.kernel.clock
 
 -- No event is due now.
-abbrev pub NoneDue : List Event → ℕ → Type 0
+abbrev pub NoneDue : List LoaderEvent → ℕ → Type 0
 NoneDue [] now = ⊤
 NoneDue (e ∷ es) now = now < e.time
 
@@ -33,7 +33,7 @@ pub record IsLater (time : ℕ) (s : State) : Type 0 where
   pub live : s.ended ≡ More
   pub outside : s.kernel.running ≡ None
   pub none_waits : front s.kernel.queues ≡ None
-  pub event : Event
+  pub event : LoaderEvent
   pub first : slice_get s.events 0 ≡ Some event
   pub time_of : event.time ≡ time
   pub later : s.kernel.clock < time

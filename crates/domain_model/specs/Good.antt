@@ -10,7 +10,7 @@ use Rattle.unit_code.specs.declared.unit.Unit.{Unit}
 use Rattle.module_image.specs.declared.face.Face.{Face}
 use Rattle.module_image.specs.Contents.{FaceRules}
 use Rattle.domain_model.specs.declared.handler.Running.{Running}
-use Rattle.domain_model.specs.declared.event.Event.{Event}
+use Rattle.domain_model.specs.declared.event.LoaderEvent.{LoaderEvent}
 use Rattle.domain_model.specs.Prepared.{Module, Prep}
 use Rattle.domain_model.specs.Units.{AreProper}
 use Rattle.domain_model.specs.State.{Processor, Message, radio, Loaded, KernelState, RunnerState, State}
@@ -106,7 +106,7 @@ IsGoodImage (Some (Err refusal)) = ⊤
 IsGoodImage (Some (Ok m)) = GoodImage m
 
 -- the times of events that are still to come
-abbrev pub AreTimes : List Event → Type 0
+abbrev pub AreTimes : List LoaderEvent → Type 0
 AreTimes events = AllByRecursion (λ e. e.time < 2 ^ 32) events
 
 pub record Good (s : State) : Type 0 where

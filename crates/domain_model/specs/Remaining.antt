@@ -1,6 +1,6 @@
 -- How many turns may still come: it falls with each turn, so every run ends.
 use Rattle.std.specs.Prelude.{ℕ, ◌+◌, ◌-◌, ◌*◌, nat_lt, List, [], ◌∷◌, length, Bool, true, false, is_some}
-use Rattle.domain_model.specs.declared.event.Event.{Event}
+use Rattle.domain_model.specs.declared.event.LoaderEvent.{LoaderEvent}
 use Rattle.domain_model.specs.declared.event.Turned.{Turned}
 use Rattle.domain_model.specs.declared.event.Turned.TheVariants.{More, EndIdle, EndBudget}
 use Rattle.mote_base.specs.Messages.{in_order}
@@ -11,7 +11,7 @@ one_if true = 1
 one_if false = 0
 
 -- the clock has still to jump to the next event
-abbrev pub is_late : List Event → ℕ → Bool
+abbrev pub is_late : List LoaderEvent → ℕ → Bool
 is_late [] now = false
 is_late (e ∷ es) now = nat_lt now e.time
 

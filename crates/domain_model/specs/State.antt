@@ -8,7 +8,7 @@ use Rattle.unit_code.specs.declared.unit.Unit.{Unit}
 use Rattle.module_image.specs.declared.face.Face.{Face}
 use Rattle.module_image.specs.Links.{Seat}
 use Rattle.domain_model.specs.declared.handler.Running.{Running}
-use Rattle.domain_model.specs.declared.event.Event.{Event}
+use Rattle.domain_model.specs.declared.event.LoaderEvent.{LoaderEvent}
 use Rattle.domain_model.specs.declared.event.Turned.{Turned}
 use Rattle.domain_model.specs.declared.event.Turned.TheVariants.{More}
 use Rattle.domain_model.specs.Bytes.{low, high}
@@ -65,7 +65,7 @@ pub record State : Type 0 where
   pub kernel : KernelState
   pub runner : RunnerState
   pub images : List (Option Prep)
-  pub events : List Event
+  pub events : List LoaderEvent
   pub unit_limit : ℕ
   pub handler_limit : ℕ
   pub total : ℕ
@@ -75,7 +75,7 @@ pub record State : Type 0 where
 -- What a run is given: the bytes of the images, the events of the script, and the two limits.
 pub record Input : Type 0 where
   pub images : List (List ℕ)
-  pub events : List Event
+  pub events : List LoaderEvent
   pub unit_limit : ℕ
   pub handler_limit : ℕ
 
@@ -150,7 +150,7 @@ abbrev pub no_runner : RunnerState
 no_runner = record { banks = replicate domain_count []; unit = 0 }
 
 -- The state in which a run of prepared images begins.
-abbrev pub begins : List (Option Prep) → List Event → ℕ → ℕ → State
+abbrev pub begins : List (Option Prep) → List LoaderEvent → ℕ → ℕ → State
 begins images events unit_limit handler_limit =
     record {
       kernel = no_kernel;

@@ -8,9 +8,9 @@ use Rattle.mote_layout.specs.Fit.{fit, blocks_for, least_of}
 use Rattle.mote_layout.specs.declared.segment.Segment.{Segment}
 use Rattle.unit_code.specs.declared.unit.Unit.{Unit}
 use Rattle.domain_model.specs.declared.handler.Running.{Running}
-use Rattle.domain_model.specs.declared.event.Event.{Event}
-use Rattle.domain_model.specs.declared.event.What.{What}
-use Rattle.domain_model.specs.declared.event.What.TheVariants as what
+use Rattle.domain_model.specs.declared.event.LoaderEvent.{LoaderEvent}
+use Rattle.domain_model.specs.declared.event.LoaderOrder.{LoaderOrder}
+use Rattle.domain_model.specs.declared.event.LoaderOrder.TheVariants as what
 use Rattle.domain_model.specs.declared.event.Choice.{Choice}
 use Rattle.domain_model.specs.declared.event.Choice.TheVariants.{Stays, Comes, Dispatches, Jumps, Idles, Budgets, Watches, Acts}
 use Rattle.domain_model.specs.declared.event.Turned.{Turned}
@@ -125,16 +125,16 @@ entered r unit = record r { unit = unit }
 
 -- Outside a handler: a due event; else the first message; else the clock jumps to the next event; else the run
 -- ends.
-abbrev pub choose_message : Option Message → List Event → Choice
+abbrev pub choose_message : Option Message → List LoaderEvent → Choice
 choose_message (Some m) es = Dispatches
 choose_message None (e ∷ es) = Jumps e.time
 choose_message None [] = Idles
 
-abbrev pub choose_event : Bool → Event → Option Message → Choice
+abbrev pub choose_event : Bool → LoaderEvent → Option Message → Choice
 choose_event true e waiting = Comes e
 choose_event false e waiting = choose_message waiting (e ∷ [])
 
-abbrev pub choose_outside : List Event → ℕ → Option Message → Choice
+abbrev pub choose_outside : List LoaderEvent → ℕ → Option Message → Choice
 choose_outside [] now waiting = choose_message waiting []
 choose_outside (e ∷ es) now waiting = choose_event (nat_le e.time now) e waiting
 
@@ -236,7 +236,7 @@ unload_module (Some m) id k r =
       lines = line.Run k.clock id 1 0 ∷ [];
     }
 
-abbrev pub came : List (Option Prep) → What → KernelState → RunnerState → Moved
+abbrev pub came : List (Option Prep) → LoaderOrder → KernelState → RunnerState → Moved
 came images (what.Load n) k r = load_image (slice_get images n) n k r
 came images (what.Unload id) k r = unload_module (module_named k.modules id) id k r
 

@@ -4,7 +4,7 @@ use crate::handler::Running;
 
 /// What an event of the script asks for.
 #[derive(Clone, Copy, Debug, PartialEq, Eq)]
-pub enum What {
+pub enum LoaderOrder {
     /// Load the image with this number, counted from 0.
     Load(u8),
     /// Unload the module with this id.
@@ -13,10 +13,10 @@ pub enum What {
 
 /// A line of the script.
 #[derive(Clone, Copy, Debug, PartialEq, Eq)]
-pub struct Event {
+pub struct LoaderEvent {
     /// The clock from which on the event is due, in units.
     pub time: u64,
-    pub what: What,
+    pub what: LoaderOrder,
 }
 
 /// How a run stands after a turn.
@@ -36,7 +36,7 @@ pub enum Choice {
     /// The run has ended, and stays so.
     Stays,
     /// An event of the script is due.
-    Comes(Event),
+    Comes(LoaderEvent),
     /// A message waits: the first is dispatched.
     Dispatches,
     /// Nothing is due and no message waits: the clock becomes this time.

@@ -25,7 +25,7 @@ mod lines;
 mod refusal;
 mod request;
 
-pub use event::{Choice, Event, Turned, What};
+pub use event::{Choice, LoaderEvent, Turned, LoaderOrder};
 pub use fault::{FaultNote, Rule, UnitEnd};
 pub use handler::Running;
 pub use laws::{every_good_state_runs_to_an_end, every_turn_is_lawful, files_are_as_prepared};

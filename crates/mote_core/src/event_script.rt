@@ -10,7 +10,7 @@ ghost use Rattle.std.specs.Prelude.{◌≡◌, ◌<◌, IfOk, IfSome, drop, leng
 ghost use Rattle.domain_model.specs.Script.{events_of};
 ghost use Rattle.domain_model.specs.Good.{AreTimes};
 
-use domain_model::Event;
+use domain_model::LoaderEvent;
 use line::{cut, event_of, is_blank};
 use mote_base::NoMemory;
 use mote_layout::EVENTS;
@@ -20,16 +20,16 @@ use std::marker::Model;
 /// The events of a run that are still to come, in their order.
 #[derive(Drop)]
 pub struct Script {
-    events: Vec<Event>,
+    events: Vec<LoaderEvent>,
     /// How many have come.
     passed: usize,
 }
 
 impl Model for Script {
     ghost use Rattle.std.specs.Prelude.{◌≤◌, List, drop, length};
-    ghost use Rattle.domain_model.specs.declared.event.Event.{Event};
+    ghost use Rattle.domain_model.specs.declared.event.LoaderEvent.{LoaderEvent};
 
-    ghost Value = { List Event };
+    ghost Value = { List LoaderEvent };
 
     ghost view = { λ s. drop s.passed s.events.items };
 
@@ -38,7 +38,7 @@ impl Model for Script {
 
 impl Script {
     /// The next event, if there is one.
-    pub fn first(&self) -> Option<Event>
+    pub fn first(&self) -> Option<LoaderEvent>
         ensures { result ≡ slice_get self.now 0 }
     {
         self.events.get(self.passed).copied()

@@ -16,7 +16,7 @@ use crate::limits::Limits;
 use crate::mod_loader::Ready;
 use crate::turns::{come, dispatch, settle, stop};
 use crate::unit_run::PlainRunner;
-use domain_model::{Choice, Event, FaultNote, Lines, Rule, Running, TraceLine, Turned};
+use domain_model::{Choice, LoaderEvent, FaultNote, Lines, Rule, Running, TraceLine, Turned};
 use mote_base::NoMemory;
 use std::alloc::Global;
 use std::marker::Model;
@@ -166,7 +166,7 @@ impl Mote {
         }
     }
 
-    fn come(&mut self, event: &Event, lines: &mut Lines)
+    fn come(&mut self, event: &LoaderEvent, lines: &mut Lines)
         requires empty { lines.old ≡ [] }
         requires chosen { choice self.old ≡ Choice.Comes event.now }
         ensures state { self.new ≡ (made (Choice.Comes event.now) self.old (act self.old.kernel self.old.runner)).state }

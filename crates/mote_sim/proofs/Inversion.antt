@@ -12,7 +12,7 @@ use Rattle.unit_code.specs.Units.{refusal, listed}
 use Rattle.module_image.specs.declared.error.ImageError.{ImageError}
 use Rattle.module_image.specs.Contents.{Contents}
 use Rattle.module_image.specs.Reading.{image_of}
-use Rattle.domain_model.specs.declared.event.Event.{Event}
+use Rattle.domain_model.specs.declared.event.LoaderEvent.{LoaderEvent}
 use Rattle.domain_model.specs.declared.request.Kind.{Kind}
 use Rattle.domain_model.specs.declared.request.Kind.TheVariants.{Run, Listing}
 use Rattle.domain_model.specs.Command.{Command, limit_of}
@@ -84,13 +84,13 @@ images_whole number fs (name ∷ names) files low e =
     (one.held, subst (λ limit. length one.bytes ≤ limit) (later_limit number low) one.fits, others)
 
 -- An input that is run is built.
-record Built (images : List (List ℕ)) (events : Option (List Event)) (built : Bool) (text : List ℕ) : Type 0 where
-  pub list : List Event
+record Built (images : List (List ℕ)) (events : Option (List LoaderEvent)) (built : Bool) (text : List ℕ) : Type 0 where
+  pub list : List LoaderEvent
   pub events_are : events ≡ Some list
   pub all : built ≡ true
   pub trace : IsTraceOf (run_input images list) text
 
-built : (images : List (List ℕ)) (events : Option (List Event)) (all : Bool) (text : List ℕ) → Answers (outcome_with (input_with images events all)) Done text → Built images events all text
+built : (images : List (List ℕ)) (events : Option (List LoaderEvent)) (all : Bool) (text : List ℕ) → Answers (outcome_with (input_with images events all)) Done text → Built images events all text
 built images None all text a = let e : Done ≡ Refused = a.0 in absurd (cc)
 built images (Some list) false text a = let e : Done ≡ Refused = a.0 in absurd (cc)
 built images (Some list) true text a = record { list = list; events_are = refl; all = refl; trace = a.1 }

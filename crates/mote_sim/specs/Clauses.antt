@@ -9,7 +9,7 @@ use Rattle.mote_layout.specs.Limits.{images_limit}
 use Rattle.unit_code.specs.Units.{refusal, listed}
 use Rattle.module_image.specs.Contents.{Contents}
 use Rattle.module_image.specs.Reading.{image_of}
-use Rattle.domain_model.specs.declared.event.Event.{Event}
+use Rattle.domain_model.specs.declared.event.LoaderEvent.{LoaderEvent}
 use Rattle.domain_model.specs.declared.line.TraceLine.{TraceLine}
 use Rattle.domain_model.specs.declared.request.Kind.TheVariants as kinds
 use Rattle.domain_model.specs.Command.{limit_of}
@@ -41,7 +41,7 @@ pub record WritesRun (names : List (List ℕ)) (files : List Named) (before : Li
   pub script_fits : length script ≤ limit_of kinds.Run 0
   pub images : List (List ℕ)
   pub images_are : AreImages files image_names images
-  pub events : List Event
+  pub events : List LoaderEvent
   pub events_are : events_of script (length images) ≡ Some events
   pub built : AllByRecursion (λ image. IsSome (prepared image)) images
   pub lines : List TraceLine

@@ -2,7 +2,7 @@
 use Rattle.std.specs.Prelude.{◌≡◌, ℕ, List, length, Bool, true, false, Option, Some, None, is_some}
 use Rattle.std.specs.List.{list_all}
 use Rattle.mote_layout.specs.Limits.{default_units, default_handler_units}
-use Rattle.domain_model.specs.declared.event.Event.{Event}
+use Rattle.domain_model.specs.declared.event.LoaderEvent.{LoaderEvent}
 use Rattle.domain_model.specs.declared.line.TraceLine.{TraceLine}
 use Rattle.domain_model.specs.Laws.{LawfulRunFrom}
 use Rattle.domain_model.specs.Prepared.{prepared}
@@ -12,7 +12,7 @@ use Rattle.domain_model.specs.Text.{texts}
 use Rattle.domain_model.specs.Turn.{Run}
 
 -- What `run` gives the machine: the bytes of the images, the events of the script, and the two budgets.
-abbrev pub run_input : List (List ℕ) → List Event → Input
+abbrev pub run_input : List (List ℕ) → List LoaderEvent → Input
 run_input images events =
     record { images = images; events = events; unit_limit = default_units; handler_limit = default_handler_units }
 
@@ -20,7 +20,7 @@ run_input images events =
 abbrev pub are_built : List (List ℕ) → Bool
 are_built images = list_all (λ image. is_some (prepared image)) images
 
-abbrev pub input_with : List (List ℕ) → Option (List Event) → Bool → Option Input
+abbrev pub input_with : List (List ℕ) → Option (List LoaderEvent) → Bool → Option Input
 input_with images None built = None
 input_with images (Some events) false = None
 input_with images (Some events) true = Some (run_input images events)

@@ -1,27 +1,27 @@
 //! Scripts and their events, written by hand.
 
-use domain_model::{Event, What};
+use domain_model::{LoaderEvent, LoaderOrder};
 use mote_core::parse_script;
 use std::test::Fail;
 
-const FIRST: &[Event] = &[Event {
+const FIRST: &[LoaderEvent] = &[LoaderEvent {
     time: 0,
-    what: What::Load(0),
+    what: LoaderOrder::Load(0),
 }];
 
-const LAST: &[Event] = &[Event {
+const LAST: &[LoaderEvent] = &[LoaderEvent {
     time: 4_294_967_295,
-    what: What::Unload(254),
+    what: LoaderOrder::Unload(254),
 }];
 
-const TWO: &[Event] = &[
-    Event {
+const TWO: &[LoaderEvent] = &[
+    LoaderEvent {
         time: 5,
-        what: What::Load(1),
+        what: LoaderOrder::Load(1),
     },
-    Event {
+    LoaderEvent {
         time: 5,
-        what: What::Unload(10),
+        what: LoaderOrder::Unload(10),
     },
 ];
 

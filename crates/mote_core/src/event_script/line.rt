@@ -4,7 +4,7 @@ ghost use Rattle.domain_model.specs.Script.{event_of, is_blank, what_of, words_i
 ghost use Rattle.mote_core.specs.ScriptCut.{IsCut, Lacks};
 
 use super::number::number_in;
-use domain_model::{Event, What};
+use domain_model::{LoaderEvent, LoaderOrder};
 
 /// The verb of an event that loads an image.
 const LOAD: &[u8] = b"load";
@@ -42,23 +42,23 @@ pub fn is_blank(line: &[u8]) -> bool
 }
 
 // What the line's event asks for.
-fn what_of(verb: &[u8], operand: &[u8], images: usize) -> Option<What>
+fn what_of(verb: &[u8], operand: &[u8], images: usize) -> Option<LoaderOrder>
     ensures { result ≡ what_of verb.now operand.now images }
 {
     if verb == LOAD {
         let image = number_in(operand, 0, MAX_IMAGE)?;
-        return ((image as usize) < images).then_some(What::Load(image as u8));
+        return ((image as usize) < images).then_some(LoaderOrder::Load(image as u8));
     }
     if verb == UNLOAD {
         let id = number_in(operand, 1, MAX_ID)?;
-        return Some(What::Unload(id as u8));
+        return Some(LoaderOrder::Unload(id as u8));
     }
     None
 }
 
 /// The event of a line that isn't blank.
 #[tactic(auto, using(crate::proofs::ScriptCuts::one_word, crate::proofs::ScriptCuts::two_words, crate::proofs::ScriptCuts::three_words, crate::proofs::ScriptCuts::four_words))]
-pub fn event_of(line: &[u8], images: usize) -> Option<Event>
+pub fn event_of(line: &[u8], images: usize) -> Option<LoaderEvent>
     ensures event { result ≡ event_of (words_in line.now) images }
     ensures time { IfSome result (λ e. e.time < 2 ^ 32) }
 {
@@ -69,5 +69,5 @@ pub fn event_of(line: &[u8], images: usize) -> Option<Event>
     }
     let time = number_in(time, 0, MAX_TIME)?;
     let what = what_of(verb, operand, images)?;
-    Some(Event { time, what })
+    Some(LoaderEvent { time, what })
 }
