@@ -3,6 +3,7 @@ use Rattle.std.proofs.Common.{ℕ, ◌≤◌, List, map, refl, arith, Option}
 use Rattle.std.specs.List.{AllByRecursion}
 use Rattle.mote_layout.specs.Limits.{unit_limit, handler_limit}
 use Rattle.domain_model.specs.declared.event.LoaderEvent.{LoaderEvent}
+use Rattle.domain_model.specs.Loader.{loader_events}
 use Rattle.domain_model.specs.Prepared.{Prep, prepared}
 use Rattle.domain_model.specs.State.{State, Input, begins, start, no_bytes}
 use Rattle.domain_model.specs.Turn.{IsStart, is_unstated}
@@ -32,6 +33,6 @@ begins_good images events units handler good times most least highest = record {
 }
 
 -- so is each state in which a run of such an input may begin
-pub start_good : (i : Input) (s : State) → AllByRecursion IsGoodImage (map prepared i.images) → AreTimes i.events → i.unit_limit ≤ unit_limit → 1 ≤ i.handler_limit → i.handler_limit ≤ handler_limit → IsStart i s → Good s
+pub start_good : (i : Input) (s : State) → AllByRecursion IsGoodImage (map prepared i.images) → AreTimes (loader_events i.events) → i.unit_limit ≤ unit_limit → 1 ≤ i.handler_limit → i.handler_limit ≤ handler_limit → IsStart i s → Good s
 start_good i s good times most least highest first =
-    same_state_good is_unstated (start i) s first.same (begins_good (map prepared i.images) i.events i.unit_limit i.handler_limit good times most least highest)
+    same_state_good is_unstated (start i) s first.same (begins_good (map prepared i.images) (loader_events i.events) i.unit_limit i.handler_limit good times most least highest)

@@ -142,16 +142,8 @@ abbrev pub IsQuiet : List TraceLine → Type 0
 IsQuiet lines = (time id : ℕ) → Contains lines (line.Unload time id) → ⊥
 
 abbrev pub is_unload : TraceLine → Bool
-is_unload (line.Load t i d s) = false
-is_unload (line.Refused t i n k p q) = false
-is_unload (line.Run t i m f) = false
-is_unload (line.Say t i b) = false
-is_unload (line.Done t i) = false
-is_unload (line.Fault t u i n a) = false
 is_unload (line.Unload t i) = true
-is_unload (line.Absent t i) = false
-is_unload (line.EndIdle t) = false
-is_unload (line.EndBudget t) = false
+is_unload _ = false
 
 pub quiet_by : (lines : List TraceLine) → list_any is_unload lines ≡ false → IsQuiet lines
 quiet_by lines h time id c =

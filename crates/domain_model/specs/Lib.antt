@@ -1,6 +1,5 @@
 pub mod Bytes
 pub mod Command
-pub mod Script
 pub mod Units
 pub mod Prepared
 pub mod Files
@@ -10,6 +9,6 @@ pub mod Free
 pub mod Turn
 pub mod Good
 pub mod Laws
-pub mod Text
+pub mod Loader
 pub mod Remaining
 pub mod Facts

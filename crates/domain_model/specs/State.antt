@@ -9,6 +9,8 @@ use Rattle.module_image.specs.declared.face.Face.{Face}
 use Rattle.module_image.specs.Links.{Seat}
 use Rattle.domain_model.specs.declared.handler.Running.{Running}
 use Rattle.domain_model.specs.declared.event.LoaderEvent.{LoaderEvent}
+use Rattle.domain_model.specs.declared.script.Event.{Event}
+use Rattle.domain_model.specs.Loader.{loader_events}
 use Rattle.domain_model.specs.declared.event.Turned.{Turned}
 use Rattle.domain_model.specs.declared.event.Turned.TheVariants.{More}
 use Rattle.domain_model.specs.Bytes.{low, high}
@@ -75,7 +77,7 @@ pub record State : Type 0 where
 -- What a run is given: the bytes of the images, the events of the script, and the two limits.
 pub record Input : Type 0 where
   pub images : List (List ℕ)
-  pub events : List LoaderEvent
+  pub events : List Event
   pub unit_limit : ℕ
   pub handler_limit : ℕ
 
@@ -166,4 +168,4 @@ begins images events unit_limit handler_limit =
 
 -- The state in which a run begins.
 abbrev pub start : Input → State
-start i = begins (map prepared i.images) i.events i.unit_limit i.handler_limit
+start i = begins (map prepared i.images) (loader_events i.events) i.unit_limit i.handler_limit

@@ -1,8 +1,8 @@
-//! The events of a script, and the turns of a run.
+//! What the loader is asked to do, and the turns of a run.
 
 use crate::handler::Running;
 
-/// What an event of the script asks for.
+/// What an event of the script asks of the loader.
 #[derive(Clone, Copy, Debug, PartialEq, Eq)]
 pub enum LoaderOrder {
     /// Load the image with this number, counted from 0.
@@ -11,7 +11,7 @@ pub enum LoaderOrder {
     Unload(u8),
 }
 
-/// A line of the script.
+/// An event of the script that is for the loader.
 #[derive(Clone, Copy, Debug, PartialEq, Eq)]
 pub struct LoaderEvent {
     /// The clock from which on the event is due, in units.

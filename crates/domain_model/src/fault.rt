@@ -5,6 +5,8 @@
 pub enum Rule {
     /// A store to an address that is not the domain's.
     Store,
+    /// A load of a sealed module from an address that it may not read.
+    Load,
     /// The stack would pass its floor.
     StackOver,
     /// The stack would pass the base of the running domain.

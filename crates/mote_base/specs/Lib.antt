@@ -1,12 +1,14 @@
 pub mod Asked
 pub mod Causes
 pub mod Counting
+pub mod Digits
 pub mod Files
 pub mod Frames
 pub mod Lines
 pub mod Messages
 pub mod Shelves
 pub mod Sinks
+pub mod Spaced
 pub mod Statuses
 pub mod Table
 pub mod Timers

@@ -5,6 +5,7 @@
 //! are told to, and two never fail.
 #![tactic(auto)]
 
+mod digits;
 mod fault;
 mod files;
 mod frame;
@@ -18,6 +19,7 @@ mod timer;
 mod word;
 mod words;
 
+pub use digits::{add_byte, add_bytes, add_number, add_short, add_text, add_word};
 pub use fault::{Failed, NoMemory, Status};
 pub use frame::{FRAMES, Frame};
 pub use limits::limits_are_as_defined;

@@ -1,0 +1,7 @@
+mod Cuts
+mod FirstLaw
+mod Pairs
+mod Ranges
+mod Spelling
+mod Steps
+mod Words

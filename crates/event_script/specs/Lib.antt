@@ -1,0 +1,9 @@
+pub mod Admitted
+pub mod Bytes
+pub mod Cut
+pub mod Events
+pub mod Law
+pub mod Lines
+pub mod Numbers
+pub mod Refusals
+pub mod Spelled
