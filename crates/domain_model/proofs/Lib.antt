@@ -1,4 +1,6 @@
 pub mod Kept
+pub mod ByteLists
+pub mod TimeLaws
 pub mod ChoiceLaws
 pub mod ModuleLaws
 pub mod BlockLaws
