@@ -27,7 +27,7 @@ mod refusal;
 mod request;
 mod script;
 
-pub use event::{Choice, LoaderEvent, Turned, LoaderOrder};
+pub use event::{Choice, LoaderEvent, LoaderOrder, Turned};
 pub use fault::{FaultNote, Rule, UnitEnd};
 pub use handler::Running;
 pub use laws::{

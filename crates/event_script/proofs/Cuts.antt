@@ -1,8 +1,9 @@
 -- What a cut of a text at a byte makes of its lines and words.
 use Rattle.std.specs.Prelude.{ℕ, ◌≡◌, ◌≢◌, ◌<◌, ◌++◌, ◌==◌, true, false, List, [], ◌∷◌, length}
-use Rattle.std.proofs.Common.{refl, ap, ◌∙◌, arith, cond, suc, length-append}
+use Rattle.std.proofs.Common.{refl, ap, ◌∙◌, arith, suc, length-append}
 use Rattle.event_script.specs.Cut.{Lacks, IsCut}
-use Rattle.event_script.specs.Lines.{TextLine, onto_line, lines_of, onto_word, words_of}
+use Rattle.event_script.specs.Lines.{onto_line, lines_of}
+use Rattle.mote_base.specs.Spaced.{onto_word, words_of}
 
 differs : (m n : ℕ) → m ≢ n → (m == n) ≡ false
 differs m n h = grind arith

@@ -1,10 +1,9 @@
 -- The refusal of a script is the first condition that holds of its lines.
-use Rattle.std.specs.Prelude.{ℕ, ◌≡◌, ◌<◌, ◌≤◌, ◌+◌, ◌-◌, ◌++◌, ◌⊎◌, ◌↔◌, Bool, nat_lt, nat_le, true, false, if◌then◌else◌, List, [], ◌∷◌, length, take, slice_get, Option, Some, None}
-use Rattle.std.proofs.Common.{refl, ap, ◌∙◌, sym, subst, inl, inr, arith, get_or, append_assoc, append-nil, length-append}
+use Rattle.std.specs.Prelude.{ℕ, ◌≡◌, ◌<◌, ◌≤◌, ◌+◌, ◌-◌, ◌++◌, ◌⊎◌, Bool, nat_lt, true, false, if◌then◌else◌, List, [], ◌∷◌, length, take, slice_get, Option, Some, None}
+use Rattle.std.proofs.Common.{refl, ap, ◌∙◌, sym, subst, inl, inr, arith, append_assoc, length-append}
 use Rattle.std.proofs.lemmas.Bool.Decides.{nat_tests}
 use Rattle.std.proofs.lemmas.Option.{slice_get_read, slice_get_within}
 use Rattle.std.proofs.Math.Seq.{get_or-append_seam, take-append_seam}
-use Rattle.mote_layout.specs.Limits.{event_limit}
 use Rattle.domain_model.specs.declared.script.Event.{Event}
 use Rattle.event_script.specs.declared.error.ScriptError.{ScriptError}
 use Rattle.event_script.specs.declared.error.ScriptError.TheVariants.{Line, Order, ImageIndex, TooMany, NoMemory}
@@ -222,7 +221,7 @@ as_found : (images : ℕ) (all passed : List TextLine) (line : TextLine) (rest :
 as_found images all passed line [] n told at = joined images at (against images told n (said line)) None refl (at_last images at refl)
 as_found images all passed line (next ∷ rest) n told at =
     joined images at (against images told n (said line)) (first_against images (told ++ onto_events (said line) []) (n + 1) (next ∷ rest)) refl
-      (as_found images all (passed ++ (line ∷ [])) next rest (n + 1) (told ++ onto_events (said line) []) (onward at))
+    (as_found images all (passed ++ (line ∷ [])) next rest (n + 1) (told ++ onto_events (said line) []) (onward at))
 
 no_lines : (images : ℕ) (other : ScriptError) → Holds images [] other → line_number other < 1
 no_lines images other h = absurd (omega (arith, (holds_within images [] other h).0, (holds_within images [] other h).1))
@@ -276,9 +275,10 @@ found_refusal images lines None error found r = absurd (omega (arith, found erro
 found_refusal images lines (Some e) error found r = ap Some (one_refusal images lines e error (refusal_found images lines (Some e) e found refl) r)
 
 pub refusal_is_first : RefusalIsFirst
-refusal_is_first images text error =
-    ( λ is. refusal_found images (lines_of text) (refusal_of images text) error (of_lines images (lines_of text)) is
-    , λ r. found_refusal images (lines_of text) (refusal_of images text) error (of_lines images (lines_of text)) r)
+refusal_is_first images text error = (
+  λ is. refusal_found images (lines_of text) (refusal_of images text) error (of_lines images (lines_of text)) is,
+  λ r. found_refusal images (lines_of text) (refusal_of images text) error (of_lines images (lines_of text)) r,
+)
 
 none_found : (images : ℕ) (lines : List TextLine) (o : Option ScriptError) → AsFound images lines 1 o → o ≡ None → (error : ScriptError) → ¬ Holds images lines error
 none_found images lines None found is error h = omega (arith, found error h, (holds_within images lines error h).0)
@@ -289,6 +289,7 @@ none_holds images lines None found none = refl
 none_holds images lines (Some e) found none = absurd (none e found.holds)
 
 pub none_is_refused : NoneIsRefused
-none_is_refused images text =
-    ( none_found images (lines_of text) (refusal_of images text) (of_lines images (lines_of text))
-    , none_holds images (lines_of text) (refusal_of images text) (of_lines images (lines_of text)))
+none_is_refused images text = (
+  none_found images (lines_of text) (refusal_of images text) (of_lines images (lines_of text)),
+  none_holds images (lines_of text) (refusal_of images text) (of_lines images (lines_of text)),
+)

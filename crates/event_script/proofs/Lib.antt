@@ -4,4 +4,5 @@ mod Pairs
 mod Ranges
 mod Spelling
 mod Steps
+mod Times
 mod Words

@@ -1,5 +1,5 @@
 -- How the bytes of a packet follow pair by pair.
-use Rattle.std.specs.Prelude.{ℕ, ◌+◌, ◌*◌, ◌≡◌, ◌<◌, ◌≤◌, ◌&&◌, ◌++◌, nat_lt, nat_le, true, false, if◌then◌else◌, List, [], ◌∷◌, length, drop, slice_index, Option, Some, None}
+use Rattle.std.specs.Prelude.{ℕ, ◌+◌, ◌*◌, ◌≡◌, ◌<◌, ◌≤◌, ◌&&◌, ◌++◌, nat_lt, nat_le, true, false, List, [], ◌∷◌, length, drop, slice_index, Option, Some, None}
 use Rattle.std.proofs.Common.{refl, ap, ◌∙◌, sym, arith, cond, append_assoc, append-nil, length-append, length-drop}
 use Rattle.std.proofs.lemmas.Bool.Decides.{nat_tests}
 use Rattle.mote_layout.specs.Limits.{payload_limit}

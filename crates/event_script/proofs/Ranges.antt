@@ -1,8 +1,8 @@
 -- The events of a script are in order and in range.
 use Rattle.std.specs.Prelude.{ℕ, ◌≡◌, ◌<◌, ◌≤◌, ◌+◌, ◌-◌, ◌*◌, ◌++◌, ◌&&◌, ◌||◌, Bool, nat_lt, nat_le, true, false, if◌then◌else◌, List, [], ◌∷◌, length, Option, Some, None, codes}
-use Rattle.std.specs.List.{AllByRecursion, list_any}
+use Rattle.std.specs.List.{AllByRecursion}
 use Rattle.std.specs.Str.{bytes_eq}
-use Rattle.std.proofs.Common.{refl, ap, ◌∙◌, sym, subst, arith, cond, append_assoc, append-nil, length-append}
+use Rattle.std.proofs.Common.{refl, ap, ◌∙◌, sym, subst, arith, append_assoc, append-nil, length-append}
 use Rattle.std.proofs.lemmas.Bool.Decides.{nat_tests}
 use Rattle.std.proofs.lemmas.List.Folds.{list_any-append}
 use Rattle.mote_layout.specs.Limits.{event_limit, payload_limit}
@@ -10,12 +10,13 @@ use Rattle.domain_model.specs.declared.script.Event.{Event}
 use Rattle.domain_model.specs.declared.script.What.{What}
 use Rattle.domain_model.specs.declared.script.What.TheVariants as what
 use Rattle.event_script.specs.declared.error.ScriptError.{ScriptError}
-use Rattle.event_script.specs.declared.error.ScriptError.TheVariants.{Line, Order, ImageIndex, TooMany}
-use Rattle.event_script.specs.Lines.{TextLine, lines_of, words_of}
+use Rattle.event_script.specs.declared.error.ScriptError.TheVariants.{Order, ImageIndex, TooMany}
+use Rattle.event_script.specs.Lines.{TextLine, lines_of}
+use Rattle.mote_base.specs.Spaced.{words_of}
 use Rattle.event_script.specs.Numbers.{is_number, value_of, number_in, last_time, last_image, first_id, last_id, last_type}
 use Rattle.event_script.specs.Bytes.{digit_of, onto_bytes, pairs_of, few_bytes, bytes_of}
-use Rattle.event_script.specs.Events.{Said, Nothing, An, Wrong, said, said_event, is_blank, event_of, event_with, asked_by, what_of, load_of, load_with, unload_of, unload_with, radio_of, radio_with, dump_of, events_in, onto_events}
-use Rattle.event_script.specs.Refusals.{against, against_event, asks_beyond, comes_late, is_too_much, first_against, or_later, refusal_of, events_of}
+use Rattle.event_script.specs.Events.{Said, Nothing, An, Wrong, said, said_event, is_blank, event_of, event_with, asked_by, load_of, load_with, unload_of, unload_with, radio_of, radio_with, dump_of, events_in, onto_events}
+use Rattle.event_script.specs.Refusals.{against, against_event, asks_beyond, comes_late, is_too_much, first_against, or_later}
 use Rattle.event_script.specs.Spelled.{AreInOrder, AsksInRange, IsInRange, AreEvents, ScriptsHaveEvents}
 
 same_some : (m n : ℕ) → Some m ≡ Some n → m ≡ n
@@ -135,7 +136,7 @@ radio_of_in_range images (a ∷ []) w is = absurd (cc)
 radio_of_in_range images (a ∷ b ∷ []) w is = absurd (cc)
 radio_of_in_range images (a ∷ b ∷ c ∷ []) w is =
     radio_in_range images (number_in first_id last_id a) (number_in 0 last_type b) (bytes_of c) w
-      (λ n so. in_range first_id last_id a n so) (λ n so. (in_range 0 last_type b n so).1) (λ bs so. bytes_in_range c bs so) is
+    (λ n so. in_range first_id last_id a n so) (λ n so. (in_range 0 last_type b n so).1) (λ bs so. bytes_in_range c bs so) is
 radio_of_in_range images (a ∷ b ∷ c ∷ d ∷ words) w is = absurd (cc)
 
 dump_of_in_range : (images : ℕ) (words : List (List ℕ)) (w : What) → dump_of words ≡ Some w → AsksInRange images w
@@ -240,7 +241,7 @@ events_from images told n [] h is = subst (AreEvents images) (sym (append-nil to
 events_from images told n (line ∷ lines) h is =
     let parts = none_of_both (against images told n (said line)) (first_against images (told ++ onto_events (said line) []) (n + 1) lines) is in
     subst (AreEvents images) (onto_is told (said line) (events_in lines))
-      (events_from images (told ++ onto_events (said line) []) (n + 1) lines (more_events images told n line (said line) refl h parts.0) parts.1)
+    (events_from images (told ++ onto_events (said line) []) (n + 1) lines (more_events images told n line (said line) refl h parts.0) parts.1)
 
 pub scripts_have_events : ScriptsHaveEvents
 scripts_have_events images text none = events_from images [] 1 (lines_of text) (record { order = tt; ranges = tt; few = omega arith }) none

@@ -1,26 +1,28 @@
 -- Events that are spelled are read as themselves.
-use Rattle.std.specs.Prelude.{ℕ, ◌≡◌, ◌≢◌, ◌<◌, ◌≤◌, ◌+◌, ◌-◌, ◌*◌, ◌/◌, ◌%◌, ◌^◌, ◌++◌, ◌==◌, ◌&&◌, ◌||◌, Bool, not, fold, nat_lt, nat_le, true, false, if◌then◌else◌, List, [], ◌∷◌, length, slice_index, Option, Some, None, codes, decimal}
-use Rattle.std.specs.List.{AllByRecursion, list_any, list_all}
+use Rattle.std.specs.Prelude.{ℕ, ◌≡◌, ◌≢◌, ◌<◌, ◌≤◌, ◌+◌, ◌-◌, ◌*◌, ◌/◌, ◌%◌, ◌^◌, ◌++◌, ◌==◌, ◌&&◌, ◌||◌, Bool, not, fold, nat_lt, nat_le, true, false, List, [], ◌∷◌, length, slice_index, Option, Some, None, codes, decimal}
+use Rattle.std.specs.List.{AllByRecursion, list_all}
 use Rattle.std.specs.Str.{bytes_eq}
-use Rattle.std.specs.Str.Parse.{AllDigits, digits_value}
-use Rattle.std.proofs.Common.{refl, ap, ◌∙◌, sym, subst, arith, cond, zero, suc, append_assoc, append-nil, length-append, get_or}
+use Rattle.std.specs.Str.Parse.{AllDigits}
+use Rattle.std.proofs.Common.{refl, ap, ◌∙◌, sym, subst, arith, cond, zero, suc, append_assoc, append-nil, length-append}
 use Rattle.std.proofs.lemmas.Bool.Decides.{nat_tests}
 use Rattle.std.proofs.lemmas.Fmt.{decimal_is_IsNumeral, length-decimal-le, first_decimal, decimal_digit, digits_value-decimal}
-use Rattle.std.proofs.lemmas.Str.Parse.{IsNumeralModel, FoldsDigits, IsDigitsTest, numerals_by_fold, tells_digits, digit_from_value}
+use Rattle.std.proofs.lemmas.Str.Parse.{FoldsDigits, numerals_by_fold, tells_digits, digit_from_value}
 use Rattle.std.proofs.lemmas.List.Folds.{list_any-append, list_all-append}
+use Rattle.std.specs.Char.{digit_char}
+use Rattle.mote_base.specs.Digits.{pairs_text, bytes_text}
+use Rattle.mote_base.specs.Spaced.{spaced}
 use Rattle.mote_layout.specs.Limits.{event_limit, payload_limit}
 use Rattle.domain_model.specs.declared.script.Event.{Event}
 use Rattle.domain_model.specs.declared.script.What.{What}
 use Rattle.domain_model.specs.declared.script.What.TheVariants as what
-use Rattle.event_script.specs.declared.error.ScriptError.{ScriptError}
-use Rattle.event_script.specs.declared.error.ScriptError.TheVariants.{Line, Order, ImageIndex, TooMany}
 use Rattle.event_script.specs.Cut.{Lacks}
-use Rattle.event_script.specs.Lines.{TextLine, lines_of, words_of}
+use Rattle.event_script.specs.Lines.{TextLine, lines_of}
+use Rattle.mote_base.specs.Spaced.{words_of}
 use Rattle.event_script.specs.Numbers.{is_digit, is_number, value_of, number_in, most_digits, last_time, last_image, first_id, last_id, last_type}
 use Rattle.event_script.specs.Bytes.{digit_of, onto_bytes, pairs_of, few_bytes, bytes_of}
-use Rattle.event_script.specs.Events.{Said, Nothing, An, Wrong, said, said_event, is_blank, event_of, event_with, asked_by, load_with, unload_with, radio_with, events_in, onto_events}
-use Rattle.event_script.specs.Refusals.{against, against_event, asks_beyond, comes_late, is_too_much, first_against, or_later, refusal_of, events_of}
-use Rattle.event_script.specs.Spelled.{hex_digit, pairs_text, bytes_text, what_words, event_words, spaced, event_text, script_text, AreInOrder, AsksInRange, IsInRange, AreEvents, SpelledEventsAreRead}
+use Rattle.event_script.specs.Events.{Nothing, An, said, said_event, is_blank, event_of, event_with, asked_by, load_with, unload_with, radio_with, events_in, onto_events}
+use Rattle.event_script.specs.Refusals.{against, against_event, asks_beyond, comes_late, is_too_much, first_against, or_later}
+use Rattle.event_script.specs.Spelled.{what_words, event_words, event_text, script_text, AreInOrder, AsksInRange, IsInRange, SpelledEventsAreRead}
 use Rattle.event_script.proofs.Cuts.{lines_of-front, words_of-front, one_word_alone}
 
 or_true : (b : Bool) → (b || true) ≡ true
@@ -158,15 +160,15 @@ low_digit d p false is =
     ap (λ b. cond b (Some (87 + d - 48)) (cond (nat_le 97 (87 + d) && nat_le (87 + d) 102) (Some (87 + d - 87)) None)) range
     ∙ ap (λ b. cond b (Some (87 + d - 87)) None) range_2 ∙ ap Some back
 
-read_digit : (d : ℕ) → d < 16 → digit_of (hex_digit d) ≡ Some d
+read_digit : (d : ℕ) → d < 16 → digit_of (digit_char d) ≡ Some d
 read_digit d p = low_digit d p (nat_lt d 10) refl
 
-read_byte : (b : ℕ) (rest : Option (List ℕ)) (bytes : List ℕ) → b < 256 → rest ≡ Some bytes → onto_bytes (digit_of (hex_digit (b / 16))) (digit_of (hex_digit (b % 16))) rest ≡ Some (b ∷ bytes)
+read_byte : (b : ℕ) (rest : Option (List ℕ)) (bytes : List ℕ) → b < 256 → rest ≡ Some bytes → onto_bytes (digit_of (digit_char (b / 16))) (digit_of (digit_char (b % 16))) rest ≡ Some (b ∷ bytes)
 read_byte b rest bytes p is =
     let high = read_digit (b / 16) (omega (arith, p)) in
     let low = read_digit (b % 16) (omega arith) in
     let whole : 16 * (b / 16) + b % 16 ≡ b = omega arith in
-    ap (λ o. onto_bytes o (digit_of (hex_digit (b % 16))) rest) high
+    ap (λ o. onto_bytes o (digit_of (digit_char (b % 16))) rest) high
     ∙ ap (λ o. onto_bytes (Some (b / 16)) o rest) low
     ∙ ap (onto_bytes (Some (b / 16)) (Some (b % 16))) is
     ∙ ap (λ n. Some (n ∷ bytes)) whole
@@ -182,7 +184,7 @@ pub read_bytes : (bytes : List ℕ) → length bytes ≤ payload_limit → AllBy
 read_bytes [] few all = refl
 read_bytes (b ∷ bytes) few all =
     let test : (nat_lt 0 (length (b ∷ bytes)) && nat_le (length (b ∷ bytes)) payload_limit) ≡ true = grind (arith, nat_tests) in
-    ap (λ t. cond t (Some []) (few_bytes (pairs_of (pairs_text (b ∷ bytes))))) (not_bare (hex_digit (b / 16)) (hex_digit (b % 16)) (pairs_text bytes))
+    ap (λ t. cond t (Some []) (few_bytes (pairs_of (pairs_text (b ∷ bytes))))) (not_bare (digit_char (b / 16)) (digit_char (b % 16)) (pairs_text bytes))
     ∙ ap few_bytes (read_pairs (b ∷ bytes) all)
     ∙ ap (λ t. cond t (Some (b ∷ bytes)) None) test
 
@@ -190,7 +192,7 @@ hex_word_where : (d : ℕ) → d < 16 → (b : Bool) → nat_lt d 10 ≡ b → I
 hex_word_where d p true is = ((λ h. omega (arith, h)), (λ h. omega (arith, h)))
 hex_word_where d p false is = ((λ h. omega (arith, h)), (λ h. omega (arith, h)))
 
-hex_word : (d : ℕ) → d < 16 → IsOfWord (hex_digit d)
+hex_word : (d : ℕ) → d < 16 → IsOfWord (digit_char d)
 hex_word d p = hex_word_where d p (nat_lt d 10) refl
 
 pairs_word : (bytes : List ℕ) → AllByRecursion (λ b. b < 256) bytes → IsWord (pairs_text bytes)

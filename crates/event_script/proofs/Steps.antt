@@ -9,7 +9,8 @@ use Rattle.domain_model.specs.declared.script.Event.{Event}
 use Rattle.event_script.specs.declared.error.ScriptError.{ScriptError}
 use Rattle.event_script.specs.declared.error.ScriptError.TheVariants.{Line, Order, ImageIndex, TooMany}
 use Rattle.event_script.specs.Cut.{Lacks, IsCut}
-use Rattle.event_script.specs.Lines.{TextLine, lines_of, words_of}
+use Rattle.event_script.specs.Lines.{lines_of}
+use Rattle.mote_base.specs.Spaced.{words_of}
 use Rattle.event_script.specs.Events.{Said, Nothing, An, Wrong, said, said_event, is_blank, event_of, events_in, onto_events}
 use Rattle.event_script.specs.Refusals.{against, asks_beyond, against_event, comes_late, first_against, or_later, refusal_of, events_of}
 use Rattle.event_script.specs.Admitted.{admitted}

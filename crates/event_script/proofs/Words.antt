@@ -1,7 +1,7 @@
 -- Events with a word too many are none.
-use Rattle.std.specs.Prelude.{ℕ, ◌≡◌, ◌<◌, ◌==◌, true, false, List, [], ◌∷◌, length, Option, None}
+use Rattle.std.specs.Prelude.{ℕ, ◌≡◌, ◌<◌, ◌==◌, true, false, List, [], ◌∷◌, length, None}
 use Rattle.std.proofs.Common.{refl, ap, ◌∙◌, arith, cond}
-use Rattle.event_script.specs.Lines.{onto_word, words_of}
+use Rattle.mote_base.specs.Spaced.{onto_word, words_of}
 use Rattle.event_script.specs.Events.{load_of, unload_of, radio_of, dump_of}
 
 onto_word-some : (byte : ℕ) (words : List (List ℕ)) → 0 < length (onto_word byte words)

@@ -1,10 +1,11 @@
 -- What a line of a script says.
-use Rattle.std.specs.Prelude.{ℕ, ◌==◌, ◌||◌, Bool, true, false, List, [], ◌∷◌, length, slice_index, Option, Some, None, codes, if◌then◌else◌}
+use Rattle.std.specs.Prelude.{ℕ, ◌==◌, ◌||◌, Bool, List, [], ◌∷◌, length, slice_index, Option, Some, None, codes, if◌then◌else◌}
 use Rattle.std.specs.Str.{bytes_eq}
 use Rattle.domain_model.specs.declared.script.Event.{Event}
 use Rattle.domain_model.specs.declared.script.What.{What}
 use Rattle.domain_model.specs.declared.script.What.TheVariants.{Load, Unload, Radio, Dump}
-use Rattle.event_script.specs.Lines.{TextLine, words_of}
+use Rattle.event_script.specs.Lines.{TextLine}
+use Rattle.mote_base.specs.Spaced.{words_of}
 use Rattle.event_script.specs.Numbers.{number_in, last_time, last_image, first_id, last_id, last_type}
 use Rattle.event_script.specs.Bytes.{bytes_of}
 

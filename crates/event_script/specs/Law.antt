@@ -1,13 +1,11 @@
 -- What the refusal of a script says of its lines.
-use Rattle.std.specs.Prelude.{ℕ, ◌+◌, ◌-◌, ◌≡◌, ◌<◌, ◌≤◌, ◌⊎◌, ◌↔◌, true, List, length, take, slice_get, Option, Some, None, IsSomeAnd}
-use Rattle.std.specs.List.{AllByRecursion}
-use Rattle.mote_layout.specs.Limits.{event_limit, payload_limit}
+use Rattle.std.specs.Prelude.{ℕ, ◌-◌, ◌≡◌, ◌<◌, ◌≤◌, ◌⊎◌, ◌↔◌, true, List, take, slice_get, Some, None}
 use Rattle.domain_model.specs.declared.script.Event.{Event}
 use Rattle.event_script.specs.declared.error.ScriptError.{ScriptError}
 use Rattle.event_script.specs.declared.error.ScriptError.TheVariants.{Line, Order, ImageIndex, TooMany, NoMemory}
 use Rattle.event_script.specs.Lines.{TextLine, lines_of}
 use Rattle.event_script.specs.Events.{Said, An, Wrong, said, events_in}
-use Rattle.event_script.specs.Refusals.{comes_late, asks_beyond, is_too_much, refusal_of, events_of}
+use Rattle.event_script.specs.Refusals.{comes_late, asks_beyond, is_too_much, refusal_of}
 
 -- The line with a number, counted from 1, says this.
 pub record Says (lines : List TextLine) (number : ℕ) (what : Said) : Type 0 where

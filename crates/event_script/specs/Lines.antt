@@ -1,4 +1,4 @@
--- The lines of a text, and the words of a line.
+-- The lines of a text.
 use Rattle.std.specs.Prelude.{ℕ, ◌==◌, Bool, true, false, List, [], ◌∷◌, if◌then◌else◌}
 
 -- A line: its bytes without its line feed, and whether it has one.
@@ -15,12 +15,3 @@ onto_line byte (line ∷ lines) = record { bytes = byte ∷ line.bytes; ended = 
 abbrev pub lines_of : List ℕ → List TextLine
 lines_of [] = []
 lines_of (byte ∷ bytes) = if byte == 10 then record { bytes = []; ended = true } ∷ lines_of bytes else onto_line byte (lines_of bytes)
-
--- The words of a line, which single spaces (32) part.
-abbrev pub onto_word : ℕ → List (List ℕ) → List (List ℕ)
-onto_word byte [] = (byte ∷ []) ∷ []
-onto_word byte (word ∷ words) = (byte ∷ word) ∷ words
-
-abbrev pub words_of : List ℕ → List (List ℕ)
-words_of [] = [] ∷ []
-words_of (byte ∷ bytes) = if byte == 32 then [] ∷ words_of bytes else onto_word byte (words_of bytes)

@@ -1,5 +1,5 @@
 -- The refusal of a script.
-use Rattle.std.specs.Prelude.{ℕ, ◌+◌, ◌≡◌, nat_le, nat_lt, Bool, false, List, [], ◌∷◌, ◌++◌, length, Option, Some, None, if◌then◌else◌}
+use Rattle.std.specs.Prelude.{ℕ, ◌+◌, nat_le, nat_lt, Bool, false, List, [], ◌∷◌, ◌++◌, length, Option, Some, None, if◌then◌else◌}
 use Rattle.std.specs.List.{list_any}
 use Rattle.mote_layout.specs.Limits.{event_limit}
 use Rattle.domain_model.specs.declared.script.Event.{Event}
@@ -44,7 +44,7 @@ abbrev pub first_against : ℕ → List Event → ℕ → List TextLine → Opti
 first_against images before number [] = None
 first_against images before number (line ∷ lines) =
     or_later (against images before number (said line))
-      (first_against images (before ++ onto_events (said line) []) (number + 1) lines)
+    (first_against images (before ++ onto_events (said line) []) (number + 1) lines)
 
 -- The refusal of a script, where it has one: of the first line that something stands against. Lines are counted
 -- from 1.

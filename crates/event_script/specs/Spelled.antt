@@ -1,24 +1,14 @@
 -- Events as text, and the lists of events that a script can have.
-use Rattle.std.specs.Prelude.{ℕ, ◌+◌, ◌*◌, ◌/◌, ◌%◌, ◌≡◌, ◌<◌, ◌≤◌, ⊤, nat_lt, List, [], ◌∷◌, ◌++◌, length, codes, decimal, Some, None, if◌then◌else◌}
-use Rattle.std.specs.List.{flat_map, AllByRecursion}
+use Rattle.std.specs.Prelude.{ℕ, ◌≡◌, ◌<◌, ◌≤◌, ⊤, List, [], ◌∷◌, ◌++◌, length, codes, decimal, None}
+use Rattle.std.specs.List.{AllByRecursion}
+use Rattle.mote_base.specs.Digits.{bytes_text}
+use Rattle.mote_base.specs.Spaced.{spaced}
 use Rattle.mote_layout.specs.Limits.{event_limit, payload_limit}
 use Rattle.domain_model.specs.declared.script.Event.{Event}
 use Rattle.domain_model.specs.declared.script.What.{What}
 use Rattle.domain_model.specs.declared.script.What.TheVariants.{Load, Unload, Radio, Dump}
 use Rattle.event_script.specs.Numbers.{last_time, last_image, first_id, last_id, last_type}
 use Rattle.event_script.specs.Refusals.{refusal_of, events_of}
-
--- The bytes of a packet: `-` for none, else two digits a byte.
-abbrev pub hex_digit : ℕ → ℕ
-hex_digit d = if nat_lt d 10 then 48 + d else 87 + d
-
-abbrev pub pairs_text : List ℕ → List ℕ
-pairs_text [] = []
-pairs_text (byte ∷ bytes) = hex_digit (byte / 16) ∷ hex_digit (byte % 16) ∷ pairs_text bytes
-
-abbrev pub bytes_text : List ℕ → List ℕ
-bytes_text [] = codes "-"
-bytes_text (byte ∷ bytes) = pairs_text (byte ∷ bytes)
 
 -- The words of an event.
 abbrev pub what_words : What → List (List ℕ)
@@ -30,12 +20,7 @@ what_words Dump = codes "dump" ∷ []
 abbrev pub event_words : Event → List (List ℕ)
 event_words e = decimal e.time ∷ what_words e.what
 
--- Words with single spaces between them, and the line that they are.
-abbrev pub spaced : List (List ℕ) → List ℕ
-spaced [] = []
-spaced (word ∷ []) = word
-spaced (word ∷ next ∷ words) = word ++ (32 ∷ spaced (next ∷ words))
-
+-- The line of an event has its words with single spaces between them.
 abbrev pub event_text : Event → List ℕ
 event_text e = spaced (event_words e) ++ (10 ∷ [])
 

@@ -50,6 +50,7 @@ impl ScriptError {
         }
     }
 }
+
 impl From<AllocError> for ScriptError {
     ghost use Rattle.std.specs.Prelude.{◌≡◌};
     ghost use Rattle.event_script.specs.declared.error.ScriptError.TheVariants.{NoMemory};

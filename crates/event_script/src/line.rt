@@ -1,7 +1,7 @@
 //! A line of a script: words that single spaces part.
 ghost use Rattle.std.specs.Prelude.{◌≡◌, []};
 ghost use Rattle.event_script.specs.Events.{asked_by, event_of, load_of, radio_of, unload_of, what_of};
-ghost use Rattle.event_script.specs.Lines.{words_of};
+ghost use Rattle.mote_base.specs.Spaced.{words_of};
 
 use crate::hex::bytes_of;
 use crate::number::number_in;

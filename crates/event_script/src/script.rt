@@ -1,5 +1,7 @@
 //! The events of a script, line by line.
 ghost use Rattle.std.specs.Prelude.{◌≡◌, ◌⊎◌, ◌<◌, ◌+◌, None, Some, IfErr, IfOk, length};
+ghost use Rattle.domain_model.specs.Good.{AreTimes};
+ghost use Rattle.domain_model.specs.Loader.{loader_events};
 ghost use Rattle.event_script.specs.Admitted.{admitted};
 ghost use Rattle.event_script.specs.Refusals.{asks_beyond, refusal_of, events_of};
 
@@ -27,7 +29,13 @@ fn asks_beyond(what: &What, images: usize) -> bool
 }
 
 // Whether an event can stand in its line, behind `count` others of which the last has the time `latest`.
-fn admit(event: &Event, latest: u64, count: usize, images: usize, line: u64) -> Result<(), ScriptError>
+fn admit(
+    event: &Event,
+    latest: u64,
+    count: usize,
+    images: usize,
+    line: u64,
+) -> Result<(), ScriptError>
     ensures { result ≡ admitted latest count images line event.now }
 {
     if event.time < latest {
@@ -46,6 +54,7 @@ fn admit(event: &Event, latest: u64, count: usize, images: usize, line: u64) -> 
 /// images the run is given.
 pub fn parse_script(alloc: Global, text: &[u8], images: usize) -> Result<Script, ScriptError>
     ensures ok { IfOk result (λ script. (refusal_of images text.now ≡ None) × (script.events.items ≡ events_of text.now)) }
+    ensures times { IfOk result (λ script. AreTimes (loader_events script.events.items)) }
     ensures err { IfErr result (λ e. (e ≡ ScriptError.NoMemory) ⊎ (refusal_of images text.now ≡ Some e)) }
 {
     let mut events = Vec::new(alloc);

@@ -2,7 +2,7 @@
 ghost use Rattle.std.specs.Prelude.{◌≡◌, ◌∷◌, [], MatchOption};
 ghost use Rattle.event_script.specs.Cut.{IsCut, Lacks};
 ghost use Rattle.event_script.specs.Events.{is_blank};
-ghost use Rattle.event_script.specs.Lines.{words_of};
+ghost use Rattle.mote_base.specs.Spaced.{words_of};
 
 /// The text before the first such byte, and the text behind it.
 pub fn cut<'a>(text: &'a [u8], byte: u8) -> Option<(&'a [u8], &'a [u8])>

@@ -4,5 +4,3 @@ pub mod Prepared
 pub mod Retained
 pub mod Rooms
 pub mod RowLaws
-pub mod ScriptCuts
-pub mod ScriptSteps

@@ -1,4 +1,3 @@
 pub mod Kernel
 pub mod Value
 pub mod Rows
-pub mod ScriptCut

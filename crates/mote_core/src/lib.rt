@@ -1,15 +1,15 @@
 //! One mote: the kernel, the units of its modules, and the turns that they make together.
 //!
 //! `Mote::turn` is a turn of the machine of domains and writes its lines; `Mote::new` gives the state in which
-//! a run begins. `Ready` is an image that was prepared for its load, and `Script` the events of a run.
+//! a run begins. `Ready` is an image that was prepared for its load.
 //!
-//! Parts that are to be crates of their own stand here as private modules under the crates' names: `event_script`
-//! reads a script, `avr_machine` is the processor, `sos_heap` the owned blocks, `kernel_call` the kernel, `unit_run`
+//! Parts that are to be crates of their own stand here as private modules under the crates' names:
+//! `avr_machine` is the processor, `sos_heap` the owned blocks, `kernel_call` the kernel, `unit_run`
 //! runs units, and `mod_loader` prepares images, whose fields `module_image` reads and whose units `unit_code`.
 #![tactic(auto)]
 
+mod agenda;
 mod avr_machine;
-mod event_script;
 mod kernel_call;
 mod limits;
 mod loaded;
@@ -20,7 +20,6 @@ mod sos_heap;
 mod turns;
 mod unit_run;
 
-pub use event_script::{Script, parse_script};
 pub use limits::Limits;
 pub use mod_loader::Ready;
 pub use mote::Mote;

@@ -5,18 +5,20 @@ ghost use Rattle.mote_layout.specs.Limits.{unit_limit, handler_limit};
 ghost use Rattle.domain_model.specs.Act.{act};
 ghost use Rattle.domain_model.specs.Good.{Good, IsGoodImage, AreTimes};
 ghost use Rattle.domain_model.specs.Laws.{LawfulTurn};
+ghost use Rattle.domain_model.specs.Loader.{loader_events};
 ghost use Rattle.domain_model.specs.Remaining.{remaining};
 ghost use Rattle.domain_model.specs.State.{begins};
 ghost use Rattle.mote_base.specs.Messages.{front};
 ghost use Rattle.domain_model.specs.Turn.{choice, choose_inside, choose_outside, made};
 
-use crate::event_script::Script;
+use crate::agenda::Agenda;
 use crate::kernel_call::Kernel;
 use crate::limits::Limits;
 use crate::mod_loader::Ready;
 use crate::turns::{come, dispatch, settle, stop};
 use crate::unit_run::PlainRunner;
 use domain_model::{Choice, LoaderEvent, FaultNote, Lines, Rule, Running, TraceLine, Turned};
+use event_script::Script;
 use mote_base::NoMemory;
 use std::alloc::Global;
 use std::marker::Model;
@@ -27,7 +29,7 @@ pub struct Mote {
     kernel: Kernel,
     runner: PlainRunner,
     images: Vec<Ready>,
-    script: Script,
+    agenda: Agenda,
     limits: Limits,
     total: u64,
     spent: u64,
@@ -41,10 +43,10 @@ impl Model for Mote {
 
     ghost Value = { State };
 
-    ghost view = { λ m. state_of m.kernel m.runner m.images.items m.script m.limits m.total m.spent m.ended };
+    ghost view = { λ m. state_of m.kernel m.runner m.images.items m.agenda m.limits m.total m.spent m.ended };
 
     ghost invariant = { λ m. Good
-        (state_of m.kernel m.runner m.images.items m.script m.limits m.total m.spent m.ended) };
+        (state_of m.kernel m.runner m.images.items m.agenda m.limits m.total m.spent m.ended) };
 }
 
 impl Mote {
@@ -56,20 +58,21 @@ impl Mote {
         limits: Limits,
     ) -> Result<Mote, NoMemory>
         requires images { AllByRecursion IsGoodImage images.items }
-        requires times { AreTimes script }
+        requires times { AreTimes (loader_events script.events.items) }
         requires units { limits.units ≤ unit_limit }
         requires least { 1 ≤ limits.handler }
         requires greatest { limits.handler ≤ handler_limit }
-        ensures begins { IfOk result (λ m. m ≡ begins images.items script limits.units limits.handler) }
+        ensures begins { IfOk result (λ m. m ≡ begins images.items (loader_events script.events.items) limits.units limits.handler) }
         ensures good { IfOk result (λ m. Good m) }
     {
         let kernel = Kernel::new(alloc)?;
         let runner = PlainRunner::new(alloc)?;
+        let agenda = Agenda::new(alloc, &script)?;
         Ok(Mote {
             kernel,
             runner,
             images,
-            script,
+            agenda,
             limits,
             total: 0,
             spent: 0,
@@ -129,7 +132,7 @@ impl Mote {
         ensures { result ≡ choose_outside self.now.events self.now.kernel.clock (front self.now.kernel.queues) }
     {
         let waits = self.kernel.has_message();
-        match self.script.first() {
+        match self.agenda.first() {
             Some(event) => {
                 if event.time <= self.kernel.clock() {
                     Choice::Comes(event)
@@ -175,7 +178,7 @@ impl Mote {
         ensures lines { lines.new ≡
             (made (Choice.Comes event.now) self.old (act self.old.kernel self.old.runner)).lines }
     {
-        self.script.pass();
+        self.agenda.pass();
         self.spent = 0;
         come(
             &self.images,

@@ -3,7 +3,7 @@ ghost use Rattle.std.specs.Prelude.{◌≡◌};
 ghost use Rattle.arrayvec.specs.ArrayVec.{array_vec_len};
 ghost use Rattle.trace_text.specs.Text.{text};
 
-use crate::field::{add_address, add_field, add_rule, add_why};
+use crate::field::{add_address, add_field, add_rule, add_short_field, add_why};
 use domain_model::{PayloadBytes, Rule, TraceLine, Why};
 use mote_base::{Line, add_bytes, add_number, add_text};
 

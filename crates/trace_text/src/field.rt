@@ -1,12 +1,12 @@
 //! Fields of a line: words behind a space.
 ghost use Rattle.std.specs.Prelude.{◌≡◌, ◌≤◌, ◌+◌, ◌++◌, ◌∷◌, length, decimal, codes};
 ghost use Rattle.arrayvec.specs.ArrayVec.{array_vec_len};
-ghost use Rattle.mote_base.specs.Digits.{long_width, word_digits, word_width};
+ghost use Rattle.mote_base.specs.Digits.{long_width, short_width, word_digits, word_width};
 ghost use Rattle.mote_base.specs.Lines.{line_bytes};
 ghost use Rattle.trace_text.specs.Text.{owner_text, queue_text, rule_text, why_text};
 
 use domain_model::{Rule, Why};
-use mote_base::{Line, add_number, add_text, add_word};
+use mote_base::{Line, add_number, add_short, add_text, add_word};
 
 /// Adds a space and a number.
 pub fn add_field(line: &mut Line, number: u64)
@@ -16,6 +16,16 @@ pub fn add_field(line: &mut Line, number: u64)
 {
     add_text(line, b" ");
     add_number(line, number);
+}
+
+/// Adds a space and a number of 16 bits.
+pub fn add_short_field(line: &mut Line, number: u16)
+    requires { array_vec_len line.old + (1 + short_width) ≤ line_bytes }
+    ensures items { line.new.items ≡ line.old.items ++ (codes " " ++ decimal number) }
+    ensures len { array_vec_len line.new ≤ array_vec_len line.old + (1 + short_width) }
+{
+    add_text(line, b" ");
+    add_short(line, number);
 }
 
 /// Adds a space and an address or a word of code.

@@ -4,7 +4,10 @@ ghost use Rattle.arrayvec.specs.ArrayVec.{array_vec_len};
 ghost use Rattle.mote_base.specs.Lines.{line_bytes};
 ghost use Rattle.trace_text.specs.Text.{text};
 
-use crate::event::{put_call, put_dropped, put_fault, put_load, put_queued, put_refused, put_run, put_say, put_send, put_unbound};
+use crate::event::{
+    put_call, put_dropped, put_fault, put_load, put_queued, put_refused, put_run, put_say,
+    put_send, put_unbound,
+};
 use crate::field::add_field;
 use crate::state::{put_dump_block, put_dump_module, put_dump_msg, put_dump_timer, put_ran};
 use domain_model::TraceLine;
@@ -40,19 +43,69 @@ pub fn put_line(t: &TraceLine, line: &mut Line)
     ensures short { length (text t.now) ≤ line_bytes }
 {
     match t {
-        TraceLine::Load { time, id, domain, state } => put_load(line, *time, *id, *domain, *state),
-        TraceLine::Refused { time, image, number, k, p, q } => put_refused(line, *time, *image, *number, *k, *p, *q),
-        TraceLine::Run { time, id, sort, from } => put_run(line, *time, *id, *sort, *from),
-        TraceLine::Call { time, id, slot, to, func } => put_call(line, *time, *id, *slot, *to, *func),
+        TraceLine::Load {
+            time,
+            id,
+            domain,
+            state,
+        } => put_load(line, *time, *id, *domain, *state),
+        TraceLine::Refused {
+            time,
+            image,
+            number,
+            k,
+            p,
+            q,
+        } => put_refused(line, *time, *image, *number, *k, *p, *q),
+        TraceLine::Run {
+            time,
+            id,
+            sort,
+            from,
+        } => put_run(line, *time, *id, *sort, *from),
+        TraceLine::Call {
+            time,
+            id,
+            slot,
+            to,
+            func,
+        } => put_call(line, *time, *id, *slot, *to, *func),
         TraceLine::Unbound { time, id, slot } => put_unbound(line, *time, *id, *slot),
         TraceLine::Say { time, id, byte } => put_say(line, *time, *id, *byte),
-        TraceLine::Send { time, id, dest, sort, bytes } => put_send(line, *time, *id, *dest, *sort, bytes),
+        TraceLine::Send {
+            time,
+            id,
+            dest,
+            sort,
+            bytes,
+        } => put_send(line, *time, *id, *dest, *sort, bytes),
         TraceLine::Queued { time, id, sort } => put_queued(line, *time, *id, *sort),
-        TraceLine::Dropped { time, why, id, sort } => put_dropped(line, *time, *why, *id, *sort),
-        TraceLine::Fault { time, rule, id, unit, address } => put_fault(line, *time, *rule, *id, *unit, *address),
+        TraceLine::Dropped {
+            time,
+            why,
+            id,
+            sort,
+        } => put_dropped(line, *time, *why, *id, *sort),
+        TraceLine::Fault {
+            time,
+            rule,
+            id,
+            unit,
+            address,
+        } => put_fault(line, *time, *rule, *id, *unit, *address),
         TraceLine::DumpModule { id, domain, state } => put_dump_module(line, *id, *domain, *state),
-        TraceLine::DumpBlock { address, bytes, owner } => put_dump_block(line, *address, *bytes, *owner),
-        TraceLine::DumpMsg { high, from, to, sort, address } => put_dump_msg(line, *high, *from, *to, *sort, *address),
+        TraceLine::DumpBlock {
+            address,
+            bytes,
+            owner,
+        } => put_dump_block(line, *address, *bytes, *owner),
+        TraceLine::DumpMsg {
+            high,
+            from,
+            to,
+            sort,
+            address,
+        } => put_dump_msg(line, *high, *from, *to, *sort, *address),
         TraceLine::DumpTimer { module, id, due } => put_dump_timer(line, *module, *id, *due),
         TraceLine::Ran { pc, word, sp, sreg } => put_ran(line, *pc, *word, *sp, *sreg),
         TraceLine::Done { time, id } => put_module(line, *time, b" done", *id),

@@ -1,6 +1,7 @@
-use Rattle.std.proofs.Common.{◌≡◌, ◌<◌, ◌⊎◌, length, sym, arith, inr}
+use Rattle.std.proofs.Common.{◌≡◌, ◌<◌, length, sym, arith, inr}
 use Rattle.std.proofs.lemmas.Bool.Decides.{nat_tests}
-use Rattle.event_script.proofs.Steps.{so_far-start, so_far-blank, so_far-event, refused-unended, refused-line, refused-event}
+use Rattle.event_script.proofs.Times.{script_times}
+use Rattle.event_script.proofs.Steps.{at_end, so_far-start, so_far-blank, so_far-event, refused-unended, refused-line, refused-event}
 use Rattle.event_script.proofs.script.parse_script.Goals as goal
 
 pub loop-rest-init : goal.loop-rest-init
@@ -25,3 +26,9 @@ pub loop-rest-preserved : goal.loop-rest-preserved
 loop-rest-preserved c =
     rw c.in_ok-push.ensures.items
     (so_far-event _ _ _ _ _ _ _ _ _ c.loop-rest.invariant c.in-Some.ensures (cc) (sym c.in-Some-event_of.ensures) _ (omega arith) (sym c.in_default-admit.ensures))
+
+pub returns-clause-times : goal.returns-clause-times
+returns-clause-times c =
+    let none : length c.loop-rest.rest.now ≡ 0 = grind (arith, nat_tests) in
+    let read = at_end _ _ _ _ _ _ c.loop-rest.invariant none in
+    script_times c.args.images c.args.text.now c.loop-rest.events.items read.0 read.1

@@ -8,7 +8,7 @@ use Rattle.mote_core.proofs.mote.Mote.come.Goals as goal
 pub pass-requires : goal.pass-requires
 pass-requires c =
     let facts = facts_of (Comes c.args.event.now) c.args.self.now c.requires.chosen in
-    slice_get_within c.self.inside.script 0 c.args.event.now (ap (λ (s : State). slice_get s.events 0) c.self.view_is ∙ facts.first)
+    slice_get_within c.self.inside.agenda 0 c.args.event.now (ap (λ (s : State). slice_get s.events 0) c.self.view_is ∙ facts.first)
 
 pub invariant_of-self : goal.invariant_of-self
 invariant_of-self c =
