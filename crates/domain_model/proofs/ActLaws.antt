@@ -245,3 +245,34 @@ quiet_running (Some run) k r time id c = quiet_at (next_unit r run) run k r time
 
 pub act_unloads_nothing : (k : KernelState) (r : RunnerState) (time id : ℕ) → Contains (act k r).lines (line.Unload time id) → ⊥
 act_unloads_nothing k r time id c = quiet_running k.running k r time id c
+
+-- A unit writes one line at most.
+
+few_store : (b : Bool) (i : Instr) (k : KernelState) (r : RunnerState) → length (act_store b i k r).lines ≤ 1
+few_store true i k r = omega arith
+few_store false i k r = omega arith
+
+few_return : (b : Bool) (k : KernelState) (r : RunnerState) → length (act_return b k r).lines ≤ 1
+few_return true k r = omega arith
+few_return false k r = omega arith
+
+few_call : (o : Option Service) (run : Running) (k : KernelState) (r : RunnerState) → length (act_call o run k r).lines ≤ 1
+few_call (Some PostShort) run k r = omega arith
+few_call (Some Say) run k r = omega arith
+few_call (Some MyId) run k r = omega arith
+few_call None run k r = omega arith
+
+few_at : (o : Option Unit) (run : Running) (k : KernelState) (r : RunnerState) → length (act_at o run k r).lines ≤ 1
+few_at None run k r = omega arith
+few_at (Some (Plain i)) run k r = omega arith
+few_at (Some (Store i)) run k r = few_store (may_store k run (store_address k.processor)) i k r
+few_at (Some (KernelCall n)) run k r = few_call (service_of n) run k r
+few_at (Some Return) run k r = few_return (k.processor.sp == run.base) k r
+few_at (Some _) run k r = omega arith
+
+few_running : (o : Option Running) (k : KernelState) (r : RunnerState) → length (act_running o k r).lines ≤ 1
+few_running None k r = omega arith
+few_running (Some run) k r = few_at (next_unit r run) run k r
+
+pub act_lines : (k : KernelState) (r : RunnerState) → length (act k r).lines ≤ 1
+act_lines k r = few_running k.running k r

@@ -1,3 +1,4 @@
+pub mod Agendas
 pub mod Least
 pub mod MoteLaws
 pub mod Prepared

@@ -1,6 +1,6 @@
 //! The loader's events that are still to come.
-ghost use Rattle.std.specs.Prelude.{◌≡◌, ◌<◌, [], ◌∷◌, IfOk, MatchOption, drop, length, slice_get};
-ghost use Rattle.domain_model.specs.Loader.{loader_event, loader_events};
+ghost use Rattle.std.specs.Prelude.{◌≡◌, ◌<◌, [], ◌++◌, IfOk, OnOk, drop, length, slice_get};
+ghost use Rattle.domain_model.specs.Loader.{loader_event, loader_events, onto_events};
 
 use domain_model::{Event, LoaderEvent, LoaderOrder, What};
 use event_script::Script;
@@ -45,15 +45,24 @@ fn loader_event(event: &Event) -> Option<LoaderEvent>
     }
 }
 
+// Adds the event, if it is one.
+fn push_own(found: &mut Vec<LoaderEvent>, own: Option<LoaderEvent>) -> Result<(), NoMemory>
+    ensures { OnOk result (found.new.items ≡ found.old.items ++ onto_events own []) }
+{
+    if let Some(event) = own {
+        found.push(event)?;
+    }
+    Ok(())
+}
+
 // The loader's events among these.
+#[tactic(auto, using(crate::proofs::Agendas::one_more))]
 fn loader_events(alloc: Global, events: &[Event]) -> Result<Vec<LoaderEvent>, NoMemory>
     ensures { IfOk result (λ found. found.items ≡ loader_events events.now) }
 {
     let mut found = Vec::new(alloc);
     for event in events {
-        if let Some(own) = loader_event(event) {
-            found.push(own)?;
-        }
+        push_own(&mut found, loader_event(event))?;
     }
     Ok(found)
 }

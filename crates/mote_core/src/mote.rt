@@ -17,7 +17,7 @@ use crate::limits::Limits;
 use crate::mod_loader::Ready;
 use crate::turns::{come, dispatch, settle, stop};
 use crate::unit_run::PlainRunner;
-use domain_model::{Choice, LoaderEvent, FaultNote, Lines, Rule, Running, TraceLine, Turned};
+use domain_model::{Choice, FaultNote, Lines, LoaderEvent, Rule, Running, TraceLine, Turned};
 use event_script::Script;
 use mote_base::NoMemory;
 use std::alloc::Global;

@@ -14,7 +14,7 @@ use crate::kernel_call::Kernel;
 use crate::loaded::ModuleRow;
 use crate::mod_loader::{Loadable, Ready};
 use crate::unit_run::PlainRunner;
-use domain_model::{FaultNote, Lines, Refusal, Running, TraceLine, UnitEnd, LoaderOrder};
+use domain_model::{FaultNote, Lines, LoaderOrder, Refusal, Running, TraceLine, UnitEnd};
 use mote_base::Msg;
 
 /// Why a load is refused, by the number that its line gives.
@@ -49,7 +49,13 @@ fn kernel_message(to: u8, sort: u8) -> Msg<()>
 }
 
 /// Does what an event of the script asks for.
-pub fn come(images: &[Ready], what: LoaderOrder, k: &mut Kernel, r: &mut PlainRunner, lines: &mut Lines)
+pub fn come(
+    images: &[Ready],
+    what: LoaderOrder,
+    k: &mut Kernel,
+    r: &mut PlainRunner,
+    lines: &mut Lines,
+)
     requires empty { lines.old ≡ [] }
     requires machine { GoodMachine k.old r.old }
     requires images { AllByRecursion IsGoodImage images.now }

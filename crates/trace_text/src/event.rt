@@ -93,9 +93,9 @@ pub fn put_send(line: &mut Line, time: u64, id: u8, dest: u16, sort: u8, bytes: 
 {
     add_number(line, time);
     add_text(line, b" send");
-    add_field(line, u64::from(id));
-    add_field(line, u64::from(dest));
-    add_field(line, u64::from(sort));
+    add_short_field(line, u16::from(id));
+    add_short_field(line, dest);
+    add_short_field(line, u16::from(sort));
     add_text(line, b" ");
     add_bytes(line, bytes.as_slice());
     add_text(line, b"\n");

@@ -35,12 +35,11 @@ fn put_words(line: &mut Line, time: u64, words: &[u8])
     add_text(line, words);
 }
 
-/// Writes the line's text, its line feed included, to an empty line. It has at most the bytes of a line.
+// Writes the line's text to an empty line.
 #[tactic(auto, unfolding(crate::specs::Text::text))]
-pub fn put_line(t: &TraceLine, line: &mut Line)
+fn write_line(t: &TraceLine, line: &mut Line)
     requires { array_vec_len line.old ≡ 0 }
-    ensures text { line.new.items ≡ text t.now }
-    ensures short { length (text t.now) ≤ line_bytes }
+    ensures { line.new.items ≡ text t.now }
 {
     match t {
         TraceLine::Load {
@@ -116,4 +115,14 @@ pub fn put_line(t: &TraceLine, line: &mut Line)
         TraceLine::EndIdle { time } => put_words(line, *time, b" end idle\n"),
         TraceLine::EndBudget { time } => put_words(line, *time, b" end budget\n"),
     }
+}
+
+/// Writes the line's text, its line feed included, to an empty line. It has at most the bytes of a line.
+pub fn put_line(t: &TraceLine, line: &mut Line)
+    requires { array_vec_len line.old ≡ 0 }
+    ensures text { line.new.items ≡ text t.now }
+    ensures short { length (text t.now) ≤ line_bytes }
+{
+    write_line(t, line);
+    let _written = line.as_slice();
 }

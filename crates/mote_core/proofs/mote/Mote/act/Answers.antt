@@ -1,7 +1,7 @@
 use Rattle.std.proofs.Common.{◌≡◌, ◌∙◌, ap, arith}
 use Rattle.domain_model.specs.State.{KernelState}
 use Rattle.domain_model.specs.declared.event.Choice.TheVariants.{Acts}
-use Rattle.domain_model.proofs.ActLaws.{act_changes_alone}
+use Rattle.domain_model.proofs.ActLaws.{act_changes_alone, act_lines}
 use Rattle.domain_model.proofs.TurnLaws.{settled_clock}
 use Rattle.mote_core.proofs.RowLaws.{good_in_domains}
 use Rattle.mote_core.proofs.MoteLaws.{good_of}
@@ -24,3 +24,7 @@ pub settle-requires-clause-modules : goal.settle-requires-clause-modules
 settle-requires-clause-modules c =
     rw (ap (λ (k : KernelState). k.modules) (c.run_unit-ending.ensures.kernel ∙ act_changes_alone c.self.inside.kernel c.self.inside.runner))
     (good_in_domains c.self.inside.kernel c.self.inside.runner c.self.invariant.machine)
+
+pub settle-requires-clause-room : goal.settle-requires-clause-room
+settle-requires-clause-room c =
+    rw (c.run_unit-ending.ensures.lines, c.requires.empty) (omega (arith, act_lines c.self.inside.kernel c.self.inside.runner))
