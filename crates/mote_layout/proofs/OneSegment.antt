@@ -164,3 +164,7 @@ segment_at-starting_at_from low (t ∷ ts) block s blocks h =
 
 pub segment_at-starting_at : (ss : List Segment) (block : ℕ) (s : Segment) → AreBlocks ss → starting_at ss block ≡ Some s → segment_at ss (block_address block) ≡ Some s
 segment_at-starting_at ss block s blocks h = segment_at-starting_at_from 0 ss block s blocks h
+
+-- a segment in which an address lies may stand in the heap
+pub segment_at-within : (ss : List Segment) (a : ℕ) (s : Segment) → AreBlocks ss → segment_at ss a ≡ Some s → FitsBehind 0 s
+segment_at-within ss a s blocks h = segment_at-fits 0 ss a s blocks h
