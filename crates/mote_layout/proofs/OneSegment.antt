@@ -6,7 +6,7 @@ use Rattle.mote_layout.specs.Blocks.{FitsBehind, AreBlocksFrom, AreBlocks, block
 use Rattle.mote_layout.specs.declared.segment.Segment.{Segment}
 
 -- the segment that begins with a block is among the segments, and begins with it
-starting_at-first : (ss : List Segment) (block : ℕ) (s : Segment) → starting_at ss block ≡ Some s → s.first ≡ block
+pub starting_at-first : (ss : List Segment) (block : ℕ) (s : Segment) → starting_at ss block ≡ Some s → s.first ≡ block
 starting_at-first [] block s h = absurd (none-some s h)
 starting_at-first (t ∷ ts) block s h =
     elim (cases_Bool (eqb t.first block)) [
