@@ -1,10 +1,19 @@
--- How the kernel's entries change. Who holds the parcels has to know that they are exactly the kernel's entries,
--- each once. So the entries are counted by their first block: a list of payloads is all of them, each once, where
--- as many payloads begin with a block as entries do, for every block.
-use Rattle.std.specs.Prelude.{◌≡◌, ◌≢◌, ℕ, ◌+◌, ◌==◌, ◌&&◌, List, length, filter, if◌then◌else◌}
-use Rattle.mote_layout.specs.Memory.{kernel}
+-- Blocks of the kernel's that are on their way: where their bytes are, and how the kernel's entries change. Who holds them
+-- has to know that they are exactly the kernel's entries, each once. So the entries are counted by their first block: a list
+-- of payloads is all of them, each once, where as many payloads begin with a block as entries do, for every block.
+use Rattle.std.specs.Prelude.{◌≡◌, ◌≢◌, ℕ, ◌+◌, ◌*◌, ◌≤◌, ◌==◌, ◌&&◌, List, length, filter, IsSomeAnd, if◌then◌else◌}
+use Rattle.mote_layout.specs.Memory.{block_bytes, kernel}
+use Rattle.mote_layout.specs.Blocks.{starting_at}
 use Rattle.mote_layout.specs.declared.segment.Segment.{Segment}
-use Rattle.sos_heap.specs.Parcels.{Payload, IsParcelOf}
+
+-- The bytes of a parcel: they begin with a block, and there are `len` of them.
+pub record Payload : Type 0 where
+  pub block : ℕ
+  pub len : ℕ
+
+-- A payload is a parcel of the heap with these segments: what begins with its block is the kernel's and has its bytes.
+abbrev pub IsParcelOf : List Segment → Payload → Type 0
+IsParcelOf ss p = IsSomeAnd (starting_at ss p.block) (λ s. (s.owner ≡ kernel) × (p.len ≤ block_bytes * s.count))
 
 -- how many entries of the kernel begin with a block
 abbrev pub kernel_entries : ℕ → List Segment → ℕ

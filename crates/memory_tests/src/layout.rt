@@ -1,6 +1,25 @@
-//! The edges of each row of the entry page.
+//! The edges of each row of the entry page, and of the blocks of the heap.
 
-use mote_layout::{Entry, entry_of};
+use mote_layout::{Entry, block_address, block_of, entry_of};
+
+#[test]
+fn finds_the_blocks(rt: HostRuntime) {
+    let rows = [
+        (0x0000, None),
+        (0x01FF, None),
+        (0x0200, Some(0)),
+        (0x0207, Some(0)),
+        (0x0208, Some(1)),
+        (0x0DFF, Some(383)),
+        (0x0E00, None),
+        (0xFFFF, None),
+    ];
+    for (address, block) in rows {
+        assert_eq!(rt; block_of(address), block, "at {address:04x}");
+    }
+    assert_eq!(rt; block_address(1), 0x0208);
+    assert_eq!(rt; block_address(384), 0x0E00);
+}
 
 #[test]
 fn finds_the_entries(rt: HostRuntime) {
@@ -37,6 +56,20 @@ fn finds_the_entries(rt: HostRuntime) {
         (0xF200, Some(Entry::Slot(0))),
         (0xF20F, Some(Entry::Slot(15))),
         (0xF210, None),
+        (0xF2FF, None),
+        (0xF300, Some(Entry::LoadY(0))),
+        (0xF33F, Some(Entry::LoadY(63))),
+        (0xF340, Some(Entry::LoadZ(0))),
+        (0xF37F, Some(Entry::LoadZ(63))),
+        (0xF380, Some(Entry::LoadLds)),
+        (0xF381, Some(Entry::LoadX)),
+        (0xF382, Some(Entry::LoadXInc)),
+        (0xF383, Some(Entry::LoadXDec)),
+        (0xF384, Some(Entry::LoadYInc)),
+        (0xF385, Some(Entry::LoadYDec)),
+        (0xF386, Some(Entry::LoadZInc)),
+        (0xF387, Some(Entry::LoadZDec)),
+        (0xF388, None),
         (0xFFFF, None),
     ];
     for (address, entry) in rows {
