@@ -8,5 +8,6 @@ pub mod Listing
 pub mod Proper
 pub mod Refusals
 pub mod Sound
+pub mod Spelled
 pub mod Targets
 pub mod Units
