@@ -1,5 +1,5 @@
 -- Where words are not refused, each unit has a place and each mark the number of a unit.
-use Rattle.std.proofs.Common.{◌≡◌, ℕ, suc, ◌<◌, List, [], ◌∷◌, length, cond, Option, Some, None, is_some, sym, refl, ap, subst}
+use Rattle.std.proofs.Common.{Bool, ◌≡◌, ℕ, suc, ◌<◌, List, [], ◌∷◌, length, cond, Option, Some, None, is_some, sym, refl, ap, subst}
 use Rattle.std.specs.Prelude.{option_map}
 use Rattle.std.specs.List.{AllByRecursion, cons_option, filter_map}
 use Rattle.unit_code.specs.declared.error.CodeError.TheVariants.{Entry}
@@ -52,11 +52,11 @@ entered places (m ∷ marks) e = one_mark places m marks (number_of places m) re
 pub marks_numbered : (places marks : List ℕ) → stray_mark places marks ≡ None → AreEntered places (filter_map (number_of places) marks) marks
 marks_numbered places marks e = entered places marks (no_stray places marks e)
 
-pub fits_together : (words marks : List ℕ) (l : Listing) → refusal words marks ≡ None → l ≡ listed words marks → AreSound (items_of words) → FitsTogether l marks
+pub fits_together : (words marks : List ℕ) (sealed : Bool) (l : Listing) → refusal words marks sealed ≡ None → l ≡ listed words marks sealed → AreSound (items_of words) → FitsTogether l marks
 unfolding listed
-fits_together words marks l h is sound =
-    let numbers = numbered (places_of words) marks (no_stray (places_of words) marks (no_refusal words marks h).2) in
-    let count = same_count words marks h sound in
+fits_together words marks sealed l h is sound =
+    let numbers = numbered (places_of words) marks (no_stray (places_of words) marks (no_refusal words marks sealed h).2) in
+    let count = same_count words marks sealed h sound in
     let P : Listing → Type 0 = λ x. FitsTogether x marks in
     let Q : ℕ → Type 0 = λ n. AllByRecursion (λ number. number < n) (filter_map (number_of (places_of words)) marks) in
     subst P (sym is) (record { placed = count; marked = numbers.as_many; entered = subst Q count numbers.below })

@@ -1,8 +1,8 @@
 -- Words that spell proper units are read as these units.
-use Rattle.std.proofs.Common.{◌≡◌, ◌≢◌, ◌∙◌, ℕ, zero, suc, ◌+◌, ◌-◌, ◌^◌, ◌<◌, ◌≤◌, ◌==◌, ℤ, pos, negsuc, cond, ltb, not, true, false, List, [], ◌∷◌, length, get_or, drop, min, Option, Some, None, Result, Ok, is_some, refl, sym, ap, subst, lit<, arith}
+use Rattle.std.proofs.Common.{Bool, ◌≡◌, ◌≢◌, ◌∙◌, ℕ, zero, suc, ◌+◌, ◌-◌, ◌^◌, ◌<◌, ◌≤◌, ◌==◌, ℤ, pos, negsuc, cond, ltb, not, true, false, List, [], ◌∷◌, length, get_or, drop, min, Option, Some, None, Result, Ok, is_some, refl, sym, ap, subst, lit<, arith}
 use Rattle.std.specs.Prelude.{sum_by, IfSome, option_map}
 use Rattle.std.specs.List.{AllByRecursion, cons_option, filter_map}
-use Rattle.std.proofs.lemmas.Bool.{cond-true, cond-false, le-ltb, lt-ltb}
+use Rattle.std.proofs.lemmas.Bool.{and_from, cond-true, cond-false, le-ltb, lt-ltb}
 use Rattle.std.proofs.lemmas.Bool.Decides.{nat_tests}
 use Rattle.std.proofs.lemmas.Option.{same_Some}
 use Rattle.avr_isa.specs.Decoded.{decoded}
@@ -20,7 +20,7 @@ use Rattle.unit_code.specs.declared.items.Item.{Item}
 use Rattle.unit_code.specs.declared.refusals.Condition.{Condition}
 use Rattle.unit_code.specs.declared.refusals.Condition.TheVariants as condition
 use Rattle.unit_code.specs.declared.unit.Unit.{Unit}
-use Rattle.unit_code.specs.declared.unit.Unit.TheVariants.{Plain, Store, Push, Pop, SpGroup, Reserve, Skip, Branch, Jump, LocalCall, KernelCall, SlotCall, SlotIndirect, Return}
+use Rattle.unit_code.specs.declared.unit.Unit.TheVariants.{Plain, Store, Load, Push, Pop, SpGroup, Reserve, Skip, Branch, Jump, LocalCall, KernelCall, SlotCall, SlotIndirect, Return}
 use Rattle.unit_code.specs.declared.kinds.Standing.{Standing}
 use Rattle.unit_code.specs.declared.kinds.Standing.TheVariants.{NoInstruction, Barred, Part}
 use Rattle.unit_code.specs.declared.kinds.Aim.TheVariants.{Branching, Jumping, Calling}
@@ -29,7 +29,8 @@ use Rattle.unit_code.specs.Items.{found, items_from, items_of, next_word, out_sp
 use Rattle.unit_code.specs.Kinds.{aimed, standing_call, standing_entry, standing_of, standing_rcall, whole}
 use Rattle.unit_code.specs.Lengths.{instruction_length}
 use Rattle.unit_code.specs.Listing.{Listing}
-use Rattle.unit_code.specs.Proper.{CanBeSkipped, IsOfKind, LeadsBelow, SkipsAreSound, SkipsTo, is_group_unit}
+use Rattle.unit_code.specs.Loads.{is_load, load_where}
+use Rattle.unit_code.specs.Proper.{CanBeSkipped, IsGuardedSo, IsOfKind, LeadsBelow, SkipsAreSound, SkipsTo, is_group_unit}
 use Rattle.unit_code.specs.Refusals.{first_refused, is_empty, is_group, leads, least_stray, lesser, may_skip, or_else, refused_at, refused_by, refusal_of_items, refusal_of_units, stray_mark}
 use Rattle.unit_code.specs.Spelled.{AreEntered, AreInstructionsOf, BeginWith, IsSpelled, Spell, offset_to, out_high, out_low, out_status}
 use Rattle.unit_code.specs.Targets.{AreFirstWords, number_of, number_reached, reached}
@@ -46,6 +47,7 @@ abbrev standing_for : List ℕ → ℕ → Unit → Standing
 standing_for firsts place (Branch set bit u) = aimed (Branching set bit) (offset_to place (get_or firsts u 0))
 standing_for firsts place (Jump u) = aimed Jumping (offset_to place (get_or firsts u 0))
 standing_for firsts place (LocalCall u) = aimed Calling (offset_to place (get_or firsts u 0))
+standing_for firsts place (Load i) = whole (Plain i)
 standing_for firsts place u = whole u
 
 abbrev items_for : List ℕ → List ℕ → List Unit → List Item
@@ -166,6 +168,7 @@ unit_found : (firsts : List ℕ) (place : ℕ) (u : Unit) (is : List Instr) (w :
 unfolding standing_of
 unit_found firsts place (Plain i) is w ws rest small kind opened begin = by_one (whole (Plain i)) i is w ws rest kind.0 (λ e. cc) opened begin
 unit_found firsts place (Store i) is w ws rest small kind opened begin = by_one (whole (Store i)) i is w ws rest kind.0 (λ e. cc) opened begin
+unit_found firsts place (Load i) is w ws rest small kind opened begin = by_one (whole (Plain i)) i is w ws rest kind.0 (λ e. cc) opened begin
 unit_found firsts place (Skip i) is w ws rest small kind opened begin = by_one (whole (Skip i)) i is w ws rest kind.0 (λ e. cc) opened begin
 unit_found firsts place (Push r) is w ws rest small kind opened begin = by_one (whole (Push r)) (instr.Push r) is w ws rest refl (λ e. cc) opened begin
 unit_found firsts place (Pop d) is w ws rest small kind opened begin = by_one (whole (Pop d)) (instr.Pop d) is w ws rest refl (λ e. cc) opened begin
@@ -251,19 +254,21 @@ found_number : (firsts : List ℕ) (place u : ℕ) → AreFirstWords firsts → 
 found_number firsts place u first below =
     ap (number_reached firsts) (reached-offset_to place (get_or firsts u 0)) ∙ number_of-at firsts (get_or firsts u 0) u first below refl
 
-unit_again : (firsts : List ℕ) (place : ℕ) (u : Unit) → AreFirstWords firsts → LeadsBelow (length firsts) u → unit_at firsts place (standing_for firsts place u) ≡ Some u
-unit_again firsts place (Branch set bit u) first below = ap (option_map (to_unit (Branching set bit))) (found_number firsts place u first below)
-unit_again firsts place (Jump u) first below = ap (option_map (to_unit Jumping)) (found_number firsts place u first below)
-unit_again firsts place (LocalCall u) first below = ap (option_map (to_unit Calling)) (found_number firsts place u first below)
-unit_again firsts place _ first below = refl
+unit_again : (sealed : Bool) (firsts : List ℕ) (place : ℕ) (u : Unit) → AreFirstWords firsts → LeadsBelow (length firsts) u → IsOfKind u → IsGuardedSo sealed u → unit_at sealed firsts place (standing_for firsts place u) ≡ Some u
+unit_again sealed firsts place (Plain i) first below kind load = ap (λ b. Some (load_where b i)) load
+unit_again sealed firsts place (Load i) first below kind load = ap (λ b. Some (load_where b i)) (and_from sealed (is_load i) load kind.1)
+unit_again sealed firsts place (Branch set bit u) first below kind load = ap (option_map (to_unit (Branching set bit))) (found_number firsts place u first below)
+unit_again sealed firsts place (Jump u) first below kind load = ap (option_map (to_unit Jumping)) (found_number firsts place u first below)
+unit_again sealed firsts place (LocalCall u) first below kind load = ap (option_map (to_unit Calling)) (found_number firsts place u first below)
+unit_again sealed firsts place _ first below kind load = refl
 
-units_again : (firsts ps : List ℕ) (us : List Unit) → AreFirstWords firsts → length ps ≡ length us → AllByRecursion (LeadsBelow (length firsts)) us → us ≡ filter_map (unit_of firsts) (items_for firsts ps us)
-units_again firsts [] [] first same below = refl
-units_again firsts [] (u ∷ us) first same below = absurd (omega (arith, same))
-units_again firsts (p ∷ ps) [] first same below = absurd (omega (arith, same))
-units_again firsts (p ∷ ps) (u ∷ us) first same below =
-    ap (λ l. u ∷ l) (units_again firsts ps us first (omega (arith, same)) below.1)
-    ∙ sym (ap (λ o. cons_option o (filter_map (unit_of firsts) (items_for firsts ps us))) (unit_again firsts p u first below.0))
+units_again : (sealed : Bool) (firsts ps : List ℕ) (us : List Unit) → AreFirstWords firsts → length ps ≡ length us → AllByRecursion (LeadsBelow (length firsts)) us → AllByRecursion IsOfKind us → AllByRecursion (IsGuardedSo sealed) us → us ≡ filter_map (unit_of sealed firsts) (items_for firsts ps us)
+units_again sealed firsts [] [] first same below kinds loads = refl
+units_again sealed firsts [] (u ∷ us) first same below kinds loads = absurd (omega (arith, same))
+units_again sealed firsts (p ∷ ps) [] first same below kinds loads = absurd (omega (arith, same))
+units_again sealed firsts (p ∷ ps) (u ∷ us) first same below kinds loads =
+    ap (λ l. u ∷ l) (units_again sealed firsts ps us first (omega (arith, same)) below.1 kinds.1 loads.1)
+    ∙ sym (ap (λ o. cons_option o (filter_map (unit_of sealed firsts) (items_for firsts ps us))) (unit_again sealed firsts p u first below.0 kinds.0 loads.0))
 
 -- and no condition on single words holds
 same_group : (firsts : List ℕ) (place : ℕ) (u : Unit) → is_group (standing_for firsts place u) ≡ is_group_unit u
@@ -351,9 +356,9 @@ numbers_again firsts (number ∷ numbers) (mark ∷ marks) first entered =
     ap (λ l. number ∷ l) (numbers_again firsts numbers marks first entered.2)
     ∙ sym (ap (λ o. cons_option o (filter_map (number_of firsts) marks)) (number_of-at firsts mark number first entered.0 entered.1))
 
-pub spelled_are_read : (words marks : List ℕ) (l : Listing) → AllByRecursion (λ word. word < 2 ^ 16) words → length words ≤ 65535 → IsSpelled words marks l
-    → (refusal words marks ≡ None) × (listed words marks ≡ l)
-spelled_are_read words marks l small few s =
+pub spelled_are_read : (words marks : List ℕ) (sealed : Bool) (l : Listing) → AllByRecursion (λ word. word < 2 ^ 16) words → length words ≤ 65535 → IsSpelled words marks sealed l
+    → (refusal words marks sealed ≡ None) × (listed words marks sealed ≡ l)
+spelled_are_read words marks sealed l small few s =
     let firsts = l.places in
     let us = l.units in
     let items = items_for firsts firsts us in
@@ -364,12 +369,12 @@ spelled_are_read words marks l small few s =
     let first : AreFirstWords firsts = these_are_first_words words firsts items few read_items told in
     let P : ℕ → Type 0 = λ n. AllByRecursion (LeadsBelow n) us in
     let below = subst P (sym same) s.proper.targets in
-    let made = units_again firsts firsts us first same below in
-    let read_units : us ≡ units_of words = units_from words firsts items us read_items read_places made in
+    let made = units_again sealed firsts firsts us first same below s.proper.kinds s.proper.loads in
+    let read_units : us ≡ units_of words sealed = units_from sealed words firsts items us read_items read_places made in
     let read_numbers = numbers_from words firsts marks l.marks read_places (numbers_again firsts l.marks marks first s.entered) in (
-      by_marks words marks None
+      by_marks words marks sealed None
           (items_refusal words firsts items read_items read_places ∙ clean_is_none firsts items (clean_again firsts firsts us first same below s.proper.skips))
-          (units_refusal words us read_units ∙ proper_is_none words us (some_word firsts 0 firsts us words s.proper.some s.spelled) s.proper.ends s.proper.fits)
+          (units_refusal sealed words us read_units ∙ proper_is_none words us (some_word firsts 0 firsts us words s.proper.some s.spelled) s.proper.ends s.proper.fits)
           (marks_refusal words firsts marks read_places ∙ no_stray firsts l.marks marks first s.entered),
-      sym (listed_from words marks us firsts l.marks read_units read_places read_numbers),
+      sym (listed_from words marks sealed us firsts l.marks read_units read_places read_numbers),
     )

@@ -17,7 +17,7 @@ use Rattle.mote_layout.specs.Page.{entry_at}
 use Rattle.mote_layout.proofs.EntryPage.{entry_at-some}
 use Rattle.unit_code.specs.declared.items.Item.{Item}
 use Rattle.unit_code.specs.declared.unit.Unit.{Unit}
-use Rattle.unit_code.specs.declared.unit.Unit.TheVariants.{Plain, Store, SpGroup}
+use Rattle.unit_code.specs.declared.unit.Unit.TheVariants.{Plain, Load, Store, SpGroup}
 use Rattle.unit_code.specs.declared.kinds.Standing.{Standing}
 use Rattle.unit_code.specs.declared.kinds.Standing.TheVariants.{NoInstruction, Barred, Part}
 use Rattle.unit_code.specs.declared.kinds.Piece.TheVariants.{Whole, Aimed}
@@ -26,6 +26,7 @@ use Rattle.unit_code.specs.declared.kinds.Aim.TheVariants.{Branching, Jumping, C
 use Rattle.unit_code.specs.Items.{found, is_word, items_from, items_of, next_word, out_sph, out_spl, out_sreg, read}
 use Rattle.unit_code.specs.Kinds.{is_spl_or_sph, is_sreg, off_pointer, standing_call, standing_entry, standing_in, standing_of, standing_out, standing_rcall, whole}
 use Rattle.unit_code.specs.Lengths.{instruction_length}
+use Rattle.unit_code.specs.Loads.{guarded, is_load, load_where}
 use Rattle.unit_code.specs.Sound.{AreSound, IsSound}
 use Rattle.unit_code.specs.Spelled.{AreInstructionsOf, BeginWith, IsSpelled, Spell, offset_to, out_high, out_low, out_status}
 use Rattle.unit_code.specs.Targets.{reached}
@@ -121,9 +122,9 @@ standing_back firsts place (Sbis A b) = tt
 standing_back firsts place i = refl
 
 -- What is known of an item: its unit, with the words of the unit's instructions.
-record IsUnitThere (firsts : List ℕ) (place : ℕ) (standing : Standing) (words rest : List ℕ) (further : ℕ) : Type 0 where
+record IsUnitThere (sealed : Bool) (firsts : List ℕ) (place : ℕ) (standing : Standing) (words rest : List ℕ) (further : ℕ) : Type 0 where
   unit : Unit
-  is : unit_at firsts place standing ≡ Some unit
+  is : unit_at sealed firsts place standing ≡ Some unit
   instructions : List Instr
   opened : AreInstructionsOf firsts place unit instructions
   begin : BeginWith instructions words rest
@@ -162,15 +163,25 @@ pick P false x y holds other = other
 equal : (a b : ℕ) → (a == b) ≡ true → a ≡ b
 equal a b h = grind (arith, nat_tests)
 
+-- a load has its one instruction in any image
+load_opened : (b : Bool) (firsts : List ℕ) (place : ℕ) (i : Instr) (is : List Instr) → is ≡ i ∷ [] → AreInstructionsOf firsts place (load_where b i) is
+load_opened true firsts place i is opened = opened
+load_opened false firsts place i is opened = opened
+
+guarded_opened : (sealed : Bool) (firsts : List ℕ) (place : ℕ) (u : Unit) (is : List Instr) → AreInstructionsOf firsts place u is → AreInstructionsOf firsts place (guarded sealed u) is
+guarded_opened sealed firsts place (Plain i) is opened = load_opened (sealed && is_load i) firsts place i is opened
+guarded_opened sealed firsts place (Load i) is opened = load_opened (sealed && is_load i) firsts place i is opened
+guarded_opened sealed firsts place _ is opened = opened
+
 -- one instruction by itself
-single : (firsts : List ℕ) (place : ℕ) (i : Instr) (n : ℕ) (standing : Standing) (behind : List Item) (w : ℕ) (ws : List ℕ)
+single : (sealed : Bool) (firsts : List ℕ) (place : ℕ) (i : Instr) (n : ℕ) (standing : Standing) (behind : List Item) (w : ℕ) (ws : List ℕ)
     → decoded w (next_word ws) ≡ Ok (i, n) → IsBack firsts place i standing → IsClean firsts place standing behind
-    → IsUnitThere firsts place standing (w ∷ ws) (drop (n - 1) ws) (n - 1)
-single firsts place i n NoInstruction behind w ws is back clean = absurd clean
-single firsts place i n (Barred kind) behind w ws is back clean = absurd clean
-single firsts place i n (Part (Whole u)) behind w ws is back clean =
-    record { unit = u; is = refl; instructions = i ∷ []; opened = back; begin = (alone w ws i n is, left w ws i n is); count = counted w ws i n is }
-single firsts place i n (Part (Aimed aim offset)) behind w ws is back clean =
+    → IsUnitThere sealed firsts place standing (w ∷ ws) (drop (n - 1) ws) (n - 1)
+single sealed firsts place i n NoInstruction behind w ws is back clean = absurd clean
+single sealed firsts place i n (Barred kind) behind w ws is back clean = absurd clean
+single sealed firsts place i n (Part (Whole u)) behind w ws is back clean =
+    record { unit = guarded sealed u; is = refl; instructions = i ∷ []; opened = guarded_opened sealed firsts place u (i ∷ []) back; begin = (alone w ws i n is, left w ws i n is); count = counted w ws i n is }
+single sealed firsts place i n (Part (Aimed aim offset)) behind w ws is back clean =
     let l = leads_to firsts place offset (reached place offset) refl clean in
     record {
       unit = to_unit aim l.number;
@@ -181,11 +192,11 @@ single firsts place i n (Part (Aimed aim offset)) behind w ws is back clean =
       count = counted w ws i n is;
     }
 
-read_there : (firsts : List ℕ) (place : ℕ) (behind : List Item) (w : ℕ) (ws : List ℕ) (o : Result (Instr × ℕ) DecodeError)
+read_there : (sealed : Bool) (firsts : List ℕ) (place : ℕ) (behind : List Item) (w : ℕ) (ws : List ℕ) (o : Result (Instr × ℕ) DecodeError)
     → decoded w (next_word ws) ≡ o → IsClean firsts place (read o).0 behind
-    → IsUnitThere firsts place (read o).0 (w ∷ ws) (drop (read o).1 ws) (read o).1
-read_there firsts place behind w ws (Err e) is clean = absurd clean
-read_there firsts place behind w ws (Ok (i, n)) is clean = single firsts place i n (standing_of i) behind w ws is (standing_back firsts place i) clean
+    → IsUnitThere sealed firsts place (read o).0 (w ∷ ws) (drop (read o).1 ws) (read o).1
+read_there sealed firsts place behind w ws (Err e) is clean = absurd clean
+read_there sealed firsts place behind w ws (Ok (i, n)) is clean = single sealed firsts place i n (standing_of i) behind w ws is (standing_back firsts place i) clean
 
 word_is : (expected : ℕ) (o : Option ℕ) → is_word expected o ≡ true → o ≡ Some expected
 word_is expected None h = cc
@@ -220,15 +231,15 @@ two w (v ∷ ws) is second =
     (ap (λ x. decoded x (Some v)) is ∙ high_word (Some v), (ap (λ x. decoded x (next_word ws)) v_is ∙ low_word (next_word ws), refl))
 
 -- what stands at a word is a unit, with its words
-there : (firsts : List ℕ) (place : ℕ) (behind : List Item) (w : ℕ) (ws : List ℕ)
+there : (sealed : Bool) (firsts : List ℕ) (place : ℕ) (behind : List Item) (w : ℕ) (ws : List ℕ)
     → IsClean firsts place (found w (next_word ws) (next_word (drop 1 ws))).0 behind
-    → IsUnitThere firsts place (found w (next_word ws) (next_word (drop 1 ws))).0 (w ∷ ws) (drop (found w (next_word ws) (next_word (drop 1 ws))).1 ws) (found w (next_word ws) (next_word (drop 1 ws))).1
+    → IsUnitThere sealed firsts place (found w (next_word ws) (next_word (drop 1 ws))).0 (w ∷ ws) (drop (found w (next_word ws) (next_word (drop 1 ws))).1 ws) (found w (next_word ws) (next_word (drop 1 ws))).1
 unfolding found
-there firsts place behind w ws =
-    let P : Standing × ℕ → Type 0 = λ f. IsClean firsts place f.0 behind → IsUnitThere firsts place f.0 (w ∷ ws) (drop f.1 ws) f.1 in
+there sealed firsts place behind w ws =
+    let P : Standing × ℕ → Type 0 = λ f. IsClean firsts place f.0 behind → IsUnitThere sealed firsts place f.0 (w ∷ ws) (drop f.1 ws) f.1 in
     let s = next_word ws in
     let t = next_word (drop 1 ws) in
-    let plain : P (read (decoded w s)) = read_there firsts place behind w ws (decoded w s) refl in
+    let plain : P (read (decoded w s)) = read_there sealed firsts place behind w ws (decoded w s) refl in
     let second : P (cond (w == out_sph && is_word out_spl s) (whole (SpGroup false), 1) (read (decoded w s))) =
     pick P (w == out_sph && is_word out_spl s) (whole (SpGroup false), 1) (read (decoded w s)) (λ h. let parts = and_parts (w == out_sph) (is_word out_spl s) h in λ clean. record {
       unit = SpGroup false;
@@ -250,16 +261,16 @@ there firsts place behind w ws =
     }) second
 
 -- The items' units, one after the other.
-spelled_from : (firsts : List ℕ) (over place : ℕ) (words : List ℕ) → AreClean firsts (items_from over place words)
-    → Spell firsts (place + over) (places_in (items_from over place words)) (filter_map (unit_of firsts) (items_from over place words)) (drop over words)
-spelled_from firsts zero place [] clean = refl
-spelled_from firsts (suc over) place [] clean = refl
-spelled_from firsts zero place (w ∷ ws) clean =
+spelled_from : (sealed : Bool) (firsts : List ℕ) (over place : ℕ) (words : List ℕ) → AreClean firsts (items_from over place words)
+    → Spell firsts (place + over) (places_in (items_from over place words)) (filter_map (unit_of sealed firsts) (items_from over place words)) (drop over words)
+spelled_from sealed firsts zero place [] clean = refl
+spelled_from sealed firsts (suc over) place [] clean = refl
+spelled_from sealed firsts zero place (w ∷ ws) clean =
     let f = found w (next_word ws) (next_word (drop 1 ws)) in
     let items = items_from f.1 (place + 1) ws in
-    let here = there firsts place items w ws clean.0 in
-    let rest = spelled_from firsts f.1 (place + 1) ws clean.1 in
-    let us = filter_map (unit_of firsts) items in
+    let here = there sealed firsts place items w ws clean.0 in
+    let rest = spelled_from sealed firsts f.1 (place + 1) ws clean.1 in
+    let us = filter_map (unit_of sealed firsts) items in
     let next : place + 1 + f.1 ≡ place + 0 + sum_by instruction_length here.instructions = omega (arith, here.count) in
     let same : place + 0 ≡ place = omega arith in
     let P : List Unit → Type 0 = λ l. Spell firsts (place + 0) (place ∷ places_in items) l (w ∷ ws) in
@@ -267,10 +278,10 @@ spelled_from firsts zero place (w ∷ ws) clean =
     let R : ℕ → Type 0 = λ n. AreInstructionsOf firsts n here.unit here.instructions in
     subst P (sym (ap (λ o. cons_option o us) here.is))
     (sym same, here.instructions, drop f.1 ws, subst R (sym same) here.opened, here.begin, subst Q next rest)
-spelled_from firsts (suc over) place (w ∷ ws) clean =
-    let rest = spelled_from firsts over (place + 1) ws clean in
+spelled_from sealed firsts (suc over) place (w ∷ ws) clean =
+    let rest = spelled_from sealed firsts over (place + 1) ws clean in
     let next : place + 1 + over ≡ place + suc over = omega arith in
-    let Q : ℕ → Type 0 = λ n. Spell firsts n (places_in (items_from over (place + 1) ws)) (filter_map (unit_of firsts) (items_from over (place + 1) ws)) (drop over ws) in
+    let Q : ℕ → Type 0 = λ n. Spell firsts n (places_in (items_from over (place + 1) ws)) (filter_map (unit_of sealed firsts) (items_from over (place + 1) ws)) (drop over ws) in
     subst Q next rest
 
 -- What is read is sound, since each word has 16 bits.
@@ -298,12 +309,12 @@ sound_from (suc over) place (w ∷ ws) small = sound_from over (place + 1) ws sm
 pub sound_items : (words : List ℕ) → AllByRecursion (λ word. word < 2 ^ 16) words → AreSound (items_of words)
 sound_items words small = sound_from 0 0 words small
 
-pub accepted_are_spelled : (words marks : List ℕ) → AllByRecursion (λ word. word < 2 ^ 16) words → refusal words marks ≡ None → IsSpelled words marks (listed words marks)
+pub accepted_are_spelled : (words marks : List ℕ) (sealed : Bool) → AllByRecursion (λ word. word < 2 ^ 16) words → refusal words marks sealed ≡ None → IsSpelled words marks sealed (listed words marks sealed)
 unfolding listed
-accepted_are_spelled words marks small none =
-    let parts = no_refusal words marks none in
+accepted_are_spelled words marks sealed small none =
+    let parts = no_refusal words marks sealed none in
     record {
-      spelled = spelled_from (places_of words) 0 0 words (clean_items (places_of words) (items_of words) parts.0);
+      spelled = spelled_from sealed (places_of words) 0 0 words (clean_items (places_of words) (items_of words) parts.0);
       entered = marks_numbered (places_of words) marks parts.2;
-      proper = proper_units words marks none (sound_items words small);
+      proper = proper_units words marks sealed none (sound_items words small);
     }

@@ -5,6 +5,7 @@ pub mod Kinds
 pub mod Law
 pub mod Lengths
 pub mod Listing
+pub mod Loads
 pub mod Proper
 pub mod Refusals
 pub mod Sound

@@ -1,5 +1,5 @@
 -- Units as the instructions that they are read from, and words as instructions.
-use Rattle.std.specs.Prelude.{◌≡◌, ◌≢◌, ℕ, zero, ◌+◌, ◌-◌, ◌<◌, nat_lt, ℤ, pos, negsuc, true, false, List, [], ◌∷◌, drop, length, slice_index, sum_by, Ok, ⊤, if◌then◌else◌}
+use Rattle.std.specs.Prelude.{◌≡◌, ◌≢◌, ℕ, zero, ◌+◌, ◌-◌, ◌<◌, nat_lt, ℤ, pos, negsuc, Bool, true, false, List, [], ◌∷◌, drop, length, slice_index, sum_by, Ok, ⊤, if◌then◌else◌}
 use Rattle.avr_isa.specs.Decoded.{decoded}
 use Rattle.avr_isa.specs.declared.instruction.Instr.{Instr}
 use Rattle.avr_isa.specs.declared.instruction.Instr.TheVariants as instr
@@ -7,7 +7,7 @@ use Rattle.mote_layout.specs.Memory.{pointer_y, spl_port, sph_port, sreg_port}
 use Rattle.mote_layout.specs.Page.{StandsAt}
 use Rattle.mote_layout.specs.declared.page.Entry.TheVariants.{Kernel, Slot}
 use Rattle.unit_code.specs.declared.unit.Unit.{Unit}
-use Rattle.unit_code.specs.declared.unit.Unit.TheVariants.{Plain, Store, Push, Pop, SpGroup, Reserve, Skip, Branch, Jump, LocalCall, KernelCall, SlotCall, SlotIndirect, Return}
+use Rattle.unit_code.specs.declared.unit.Unit.TheVariants.{Plain, Store, Load, Push, Pop, SpGroup, Reserve, Skip, Branch, Jump, LocalCall, KernelCall, SlotCall, SlotIndirect, Return}
 use Rattle.unit_code.specs.Items.{next_word}
 use Rattle.unit_code.specs.Lengths.{instruction_length}
 use Rattle.unit_code.specs.Listing.{Listing}
@@ -32,6 +32,7 @@ out_low = instr.Out pointer_y spl_port
 abbrev pub AreInstructionsOf : List ℕ → ℕ → Unit → List Instr → Type 0
 AreInstructionsOf firsts place (Plain i) is = is ≡ i ∷ []
 AreInstructionsOf firsts place (Store i) is = is ≡ i ∷ []
+AreInstructionsOf firsts place (Load i) is = is ≡ i ∷ []
 AreInstructionsOf firsts place (Skip i) is = is ≡ i ∷ []
 AreInstructionsOf firsts place (Push r) is = is ≡ instr.Push r ∷ []
 AreInstructionsOf firsts place (Pop d) is = is ≡ instr.Pop d ∷ []
@@ -72,8 +73,9 @@ AreEntered firsts (number ∷ numbers) [] = ⊥
 AreEntered firsts (number ∷ numbers) (mark ∷ marks) =
     (number < length firsts) × (slice_index firsts number ≡ mark) × AreEntered firsts numbers marks
 
--- The words are the instructions of these units with each target's offset, and they are entered at the marks.
-pub record IsSpelled (words marks : List ℕ) (l : Listing) : Type 0 where
+-- The words are the instructions of these units with each target's offset, and they are entered at the marks. The units
+-- are proper for an image that is sealed or not.
+pub record IsSpelled (words marks : List ℕ) (sealed : Bool) (l : Listing) : Type 0 where
   pub spelled : Spell l.places 0 l.places l.units words
   pub entered : AreEntered l.places l.marks marks
-  pub proper : IsProper l.units
+  pub proper : IsProper l.units sealed

@@ -27,4 +27,4 @@ pub use laws::one_reading;
 pub use list::UnitList;
 pub use reading::units;
 pub use targets::{number_of, number_reached, reached};
-pub use unit::{Shape, Unit, spelled_len};
+pub use unit::{Shape, Unit, is_load, spelled_len};
