@@ -12,5 +12,5 @@ mod line;
 mod operand;
 mod text;
 
-pub use laws::seal_is_unseen;
+pub use laws::{lines_tell, seal_is_unseen};
 pub use line::list_line;
