@@ -1,11 +1,8 @@
 -- The parts of an image as readers of their bytes.
-use Rattle.std.proofs.Common.{◌≡◌, ℕ, zero, suc, ◌+◌, ◌*◌, ◌-◌, Bool, true, false, cond, eqb, List, [], ◌∷◌, Result, Ok, Err, refl, arith}
+use Rattle.std.proofs.Common.{ℕ, zero, suc, ◌+◌, ◌*◌, Bool, true, false, cond, eqb, [], ◌∷◌, Ok, refl, arith}
 use Rattle.mote_layout.specs.Limits.{provided_limit, subscribed_limit}
-use Rattle.module_image.specs.declared.error.ImageError.{ImageError}
-use Rattle.module_image.specs.declared.face.Provided.{Provided}
-use Rattle.module_image.specs.declared.face.Subscribed.{Subscribed}
 use Rattle.module_image.specs.Contents.{first_version, constants_limit}
-use Rattle.module_image.specs.Reading.{◌>>=◌, byte_at, number_at, limited_at, prototype_at, flags_limit, settings_at, constants_at, counts_at, provided_one, provided_at, subscribed_one, subscribed_at}
+use Rattle.module_image.specs.Reading.{limited_at, prototype_at, flags_limit, settings_at, constants_at, counts_at, provided_one, provided_at, subscribed_one, subscribed_at}
 use Rattle.module_image.proofs.Readers.{Reader, reader_then, reader_done, byte_reader, number_reader, limited_reader}
 
 pub prototype_reader : (place : ℕ) → Reader place 4 (prototype_at place)
@@ -32,7 +29,7 @@ count_bytes first = cond first 0 2
 
 constants_by : (first : Bool) → Reader 15 (count_bytes first) (λ bytes. cond first (Ok (0, bytes)) (limited_at 15 constants_limit bytes))
 constants_by true = reader_done 15 0
-constants_by false = limited_reader 15 constants_limit
+constants_by false = limited_reader 15 constants_limit refl
 
 constants_reader : (version : ℕ) → Reader 15 (count_bytes (eqb version first_version)) (constants_at version)
 constants_reader version = constants_by (eqb version first_version)

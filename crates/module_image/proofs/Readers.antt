@@ -1,12 +1,12 @@
 -- Readers of a part of a file: that they read their part whatever follows it, and where they fail.
-use Rattle.std.proofs.Common.{◌≡◌, ℕ, zero, suc, ◌+◌, ◌*◌, ◌<◌, ◌≤◌, ◌||◌, Bool, true, false, cond, ltb, eqb, List, [], ◌∷◌, ◌++◌, length, take, drop, Result, Ok, Err, refl, sym, ap, subst, ◌∙◌, inl, inr, append_assoc, arith}
+use Rattle.std.proofs.Common.{◌≡◌, ◌⊎◌, ℕ, zero, suc, ◌+◌, ◌<◌, ◌≤◌, ◌||◌, false, cond, ltb, List, [], ◌∷◌, ◌++◌, length, take, drop, Result, Ok, Err, refl, sym, ap, subst, ◌∙◌, inl, inr, append_assoc, arith}
 use Rattle.std.specs.Prelude.{IsOk}
 use Rattle.std.proofs.lemmas.Bool.{cases_Bool, ltb-false, le-ltb}
 use Rattle.std.proofs.lemmas.List.{take-append-drop, length-append, length-take-le}
 use Rattle.byteorder.specs.Endian.{little_number}
 use Rattle.module_image.specs.declared.error.ImageError.{ImageError}
 use Rattle.module_image.specs.declared.error.ImageError.TheVariants.{Short, Magic, Version, Field, Long}
-use Rattle.module_image.specs.Reading.{◌>>=◌, byte_at, number_at, limited_at, bytes_at, ends_at}
+use Rattle.module_image.specs.Reading.{◌>>=◌, byte_at, number_at, limited_at, bytes_at}
 use Rattle.module_image.proofs.Fields.{bind_ok, guard_ok, ok_is, bytes_again}
 
 -- what a reader took from the front, and that it takes it whatever follows
@@ -16,14 +16,14 @@ pub record Whole {A : Type 0} (read : List ℕ → Result (A × List ℕ) ImageE
   pub again : (other : List ℕ) → read (text ++ other) ≡ Ok (x, other)
 
 -- A field breaks its rule: the bytes before it, with as many of its own as don't fill it, are too short, and with all of
--- its own it is refused whatever follows.
+-- its own it is refused whatever follows. It has one byte, but for the number of constants, which has two.
 pub record Breaks {B : Type 0} (place : ℕ) (read : List ℕ → Result B ImageError) (bytes : List ℕ) (at : ℕ) : Type 0 where
   pub front : List ℕ
   pub field : List ℕ
   pub rest : List ℕ
   pub parts : bytes ≡ front ++ (field ++ rest)
   pub at_is : at ≡ place + length front
-  pub some : 0 < length field
+  pub size : (length field ≡ 1) ⊎ ((length field ≡ 2) × (at ≡ 15))
   pub cut : (k : ℕ) → k < length field → read (front ++ take k field) ≡ Err (Short (at + k))
   pub same : (other : List ℕ) → read (front ++ (field ++ other)) ≡ Err (Field at)
 
@@ -78,7 +78,7 @@ push p m R f bytes x rest (Field at) w size fault =
       rest = fault.rest;
       parts = w.parts ∙ ap (λ t. text ++ t) fault.parts ∙ sym (append_assoc text fault.front (fault.field ++ fault.rest));
       at_is = omega (arith, fault.at_is, length-append text fault.front, len, size);
-      some = fault.some;
+      size = fault.size;
       cut = λ k low. through (take k fault.field) ∙ fault.cut k low;
       same = λ other. through (fault.field ++ other) ∙ fault.same other;
     }
@@ -107,7 +107,7 @@ lift p m R f bytes (Field at) first here fault = record {
   rest = fault.rest;
   parts = fault.parts;
   at_is = fault.at_is;
-  some = fault.some;
+  size = fault.size;
   cut = λ k low. ap (λ r. r >>= f) (fault.cut k low);
   same = λ other. ap (λ r. r >>= f) (fault.same other);
 }
@@ -182,7 +182,7 @@ byte_fails place least most (b ∷ rest) e is =
             rest = rest;
             parts = refl;
             at_is = omega arith;
-            some = omega arith;
+            size = inl refl;
             cut = byte_broken place least most b;
             same = λ other. rw broken refl;
           })
@@ -265,10 +265,10 @@ limited_broken place most a b zero low = refl
 limited_broken place most a b (suc zero) low = refl
 limited_broken place most a b (suc (suc k)) low = absurd (omega (arith, low))
 
-limited_fails : (place most : ℕ) → Part place (limited_at place most)
-limited_fails place most [] e is = subst (λ (d : ImageError). Fault place (limited_at place most) [] d) (err_is {A = ℕ × List ℕ} (Short (place + 0)) e is) refl
-limited_fails place most (a ∷ []) e is = subst (λ (d : ImageError). Fault place (limited_at place most) (a ∷ []) d) (err_is {A = ℕ × List ℕ} (Short (place + 1)) e is) refl
-limited_fails place most (a ∷ b ∷ rest) e is =
+limited_fails : (place most : ℕ) → place ≡ 15 → Part place (limited_at place most)
+limited_fails place most at15 [] e is = subst (λ (d : ImageError). Fault place (limited_at place most) [] d) (err_is {A = ℕ × List ℕ} (Short (place + 0)) e is) refl
+limited_fails place most at15 (a ∷ []) e is = subst (λ (d : ImageError). Fault place (limited_at place most) (a ∷ []) d) (err_is {A = ℕ × List ℕ} (Short (place + 1)) e is) refl
+limited_fails place most at15 (a ∷ b ∷ rest) e is =
     let n = little_number 2 (a ∷ b ∷ rest) in
     let all : cond (ltb most n) (Err (Field place)) (Ok (n, rest)) ≡ Err e = rw (two_long a b rest) at is in
     elim (cases_Bool (ltb most n)) [
@@ -280,7 +280,7 @@ limited_fails place most (a ∷ b ∷ rest) e is =
             rest = rest;
             parts = refl;
             at_is = omega arith;
-            some = omega arith;
+            size = inr (refl, at15);
             cut = limited_broken place most a b;
             same = λ other. rw (two_long a b other, broken) refl;
           })
@@ -298,11 +298,11 @@ limited_ends place most (a ∷ b ∷ rest) at is =
       | inr fine ↦ let none : ◌≡◌ {A = Result (ℕ × List ℕ) ImageError} (Ok (n, rest)) (Err (Long at)) = rw fine at all in cc
     ]
 
-pub limited_reader : (place most : ℕ) → Reader place 2 (limited_at place most)
-limited_reader place most = record {
+pub limited_reader : (place most : ℕ) → place ≡ 15 → Reader place 2 (limited_at place most)
+limited_reader place most at15 = record {
   local = λ bytes x is. (limited_local place most bytes x is).0;
   sized = λ bytes x is. (limited_local place most bytes x is).1;
-  fails = limited_fails place most;
+  fails = limited_fails place most at15;
   ends = limited_ends place most;
 }
 

@@ -1,7 +1,7 @@
 -- What each refusal of a file says.
-use Rattle.std.proofs.Common.{◌≡◌, ◌≢◌, ◌↔◌, ℕ, suc, ◌+◌, ◌*◌, ◌≤◌, ◌||◌, Bool, true, false, cond, ltb, eqb, List, [], ◌∷◌, ◌++◌, length, take, drop, Result, Ok, Err, refl, sym, ap, subst, ◌∙◌, inl, inr, append-nil, arith}
+use Rattle.std.proofs.Common.{◌≡◌, ◌≢◌, ◌↔◌, ◌<◌, ℕ, ◌+◌, ◌*◌, ◌||◌, true, false, cond, ltb, eqb, List, [], ◌∷◌, ◌++◌, length, take, drop, Result, Ok, Err, refl, sym, ap, subst, ◌∙◌, inl, inr, append-nil, arith}
 use Rattle.std.proofs.lemmas.Bool.{cases_Bool, false≢true, ltb-false, le-ltb, eqb-true}
-use Rattle.std.proofs.lemmas.List.{take-append-drop, length-append}
+use Rattle.std.proofs.lemmas.List.{take-append-drop}
 use Rattle.std.specs.Cmp.Lexicographic.{pointwise, same_text}
 use Rattle.module_image.specs.declared.error.ImageError.{ImageError}
 use Rattle.module_image.specs.declared.error.ImageError.TheVariants.{Short, Magic, Version, Field, Long}
@@ -134,7 +134,8 @@ image_short file at is = image_fault file (Short at) is
 pub image_field : (file : List ℕ) (at : ℕ) → image_of file ≡ Err (Field at) → BreaksAt file at
 image_field file at is =
     let b : Breaks 0 image_of file at = image_fault file (Field at) is in
-    let first : image_of (b.front ++ []) ≡ Err (Short (at + 0)) = b.cut 0 b.some in
+    let some : 0 < length b.field = elim b.size [ inl one ↦ omega (arith, one) | inr two ↦ omega (arith, two.0) ] in
+    let first : image_of (b.front ++ []) ≡ Err (Short (at + 0)) = b.cut 0 some in
     let zero : at + 0 ≡ at = omega arith in
     record {
       front = b.front;
@@ -142,7 +143,7 @@ image_field file at is =
       rest = b.rest;
       parts = b.parts;
       place = omega (arith, b.at_is);
-      some = b.some;
+      size = b.size;
       alone = ap image_of (sym (append-nil b.front)) ∙ first ∙ ap (λ (n : ℕ). short n) zero;
       cut = b.cut;
       same = b.same;

@@ -1,18 +1,19 @@
 -- What a refusal says of the file, over the definition of reading alone.
-use Rattle.std.specs.Prelude.{◌≡◌, ◌≢◌, ℕ, ◌+◌, ◌<◌, ◌≤◌, List, [], ◌∷◌, ◌++◌, length, take, Err, IsOk}
+use Rattle.std.specs.Prelude.{◌≡◌, ◌⊎◌, ◌≢◌, ℕ, ◌+◌, ◌<◌, ◌≤◌, List, [], ◌∷◌, ◌++◌, length, take, Err, IsOk}
 use Rattle.module_image.specs.declared.error.ImageError.TheVariants.{Short, Field}
 use Rattle.module_image.specs.Contents.{IsVersion}
 use Rattle.module_image.specs.Reading.{image_of}
 
 -- The field at a place breaks its rule: the bytes before it alone are too short, and so are they with as many of its own
--- as don't fill it; and every file that begins with the bytes up to its end is refused for it.
+-- as don't fill it; and every file that begins with the bytes up to its end is refused for it. A field with a rule has one
+-- byte, but for the number of constants at 15, which has two.
 pub record BreaksAt (file : List ℕ) (at : ℕ) : Type 0 where
   pub front : List ℕ
   pub field : List ℕ
   pub rest : List ℕ
   pub parts : file ≡ front ++ (field ++ rest)
   pub place : length front ≡ at
-  pub some : 0 < length field
+  pub size : (length field ≡ 1) ⊎ ((length field ≡ 2) × (at ≡ 15))
   pub alone : image_of front ≡ Err (Short at)
   pub cut : (k : ℕ) → k < length field → image_of (front ++ take k field) ≡ Err (Short (at + k))
   pub same : (other : List ℕ) → image_of (front ++ (field ++ other)) ≡ Err (Field at)
