@@ -2,3 +2,4 @@ pub mod Digits
 pub mod Operands
 pub mod Instructions
 pub mod Lines
+pub mod Widths

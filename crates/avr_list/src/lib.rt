@@ -9,8 +9,6 @@
 mod instruction;
 mod line;
 mod operand;
-#[cfg(test)]
-mod tests;
 mod text;
 
 pub use line::list_line;

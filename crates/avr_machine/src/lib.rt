@@ -14,8 +14,6 @@ mod flow;
 mod parts;
 mod plain;
 mod step;
-#[cfg(test)]
-mod tests;
 mod transfer;
 
 pub use cpu::Cpu;

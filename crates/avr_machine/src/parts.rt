@@ -1,16 +1,10 @@
 //! Single registers, pairs of registers as words, and the bytes of a word.
 ghost use Rattle.std.specs.Prelude.{◌≡◌, ◌+◌, ◌*◌, ◌%◌, ◌<◌};
+ghost use Rattle.mote_layout.specs.Memory.{register_count};
 ghost use Rattle.avr_machine.specs.Processor as processor;
 ghost use Rattle.avr_machine.specs.Write.{set_register, set_pair, written};
 
 use crate::cpu::Cpu;
-
-/// The lower registers of the pointers X, Y and Z.
-pub(crate) const X: u8 = 26;
-
-pub(crate) const Y: u8 = 28;
-
-pub(crate) const Z: u8 = 30;
 
 /// The low byte of a word.
 pub(crate) fn low(word: u16) -> u8
@@ -34,30 +28,33 @@ pub(crate) fn joined(low: u8, high: u8) -> u16
 }
 
 impl Cpu {
-    pub(crate) fn register(&self, d: u8) -> u8
-        requires { d < 32 }
+    /// A register, R0 to R31, by its number.
+    pub fn register(&self, d: u8) -> u8
+        requires { d < register_count }
         ensures { result ≡ processor.register self.now d }
     {
         self.regs[usize::from(d)]
     }
 
-    pub(crate) fn set_register(&mut self, d: u8, value: u8)
-        requires { d < 32 }
+    /// Puts a byte into a register.
+    pub fn set_register(&mut self, d: u8, value: u8)
+        requires { d < register_count }
         ensures { self.new ≡ written (set_register d value) self.old }
     {
         self.regs[usize::from(d)] = value;
     }
 
     /// The word in a pair of registers, given by the lower one.
-    pub(crate) fn pair(&self, d: u8) -> u16
-        requires { d < 31 }
+    pub fn pair(&self, d: u8) -> u16
+        requires { d + 1 < register_count }
         ensures { result ≡ processor.pair self.now d }
     {
         joined(self.register(d), self.register(d + 1))
     }
 
-    pub(crate) fn set_pair(&mut self, d: u8, word: u16)
-        requires { d < 31 }
+    /// Puts a word into a pair of registers, given by the lower one.
+    pub fn set_pair(&mut self, d: u8, word: u16)
+        requires { d + 1 < register_count }
         ensures { self.new ≡ written (set_pair d word) self.old }
     {
         self.set_register(d, low(word));

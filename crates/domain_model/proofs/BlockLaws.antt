@@ -4,7 +4,7 @@ use Rattle.std.specs.List.{AllByRecursion}
 use Rattle.std.proofs.lemmas.Bool.{cases_Bool, cond-true, cond-false, cond_both, eqb-false, or_cases, and_parts, not-true}
 use Rattle.std.proofs.lemmas.Option.{none-some, same_Some}
 use Rattle.std.proofs.lemmas.List.{length-append, length-take, length-drop, length-replicate}
-use Rattle.mote_layout.specs.Memory.{ram_start, block_bytes, domain_count}
+use Rattle.mote_layout.specs.Memory.{ram_start, ram_bytes, heap_start, red_zone_start, block_count, block_bytes, domain_count}
 use Rattle.mote_layout.specs.Blocks.{AreBlocks, AreBlocksFrom, block_address, covers, inserted, without_owner, owns}
 use Rattle.mote_layout.specs.Fit.{least_of, fit, blocks_for}
 use Rattle.mote_layout.specs.declared.segment.Segment.{Segment}
@@ -18,7 +18,7 @@ use Rattle.domain_model.proofs.Kept.{each_weaker, each_filter}
 use Rattle.domain_model.proofs.ModuleLaws.{in_use_without, other_domain}
 
 -- an owned address lies in the heap
-owned_from : (low : ℕ) (blocks : List Segment) (domain address : ℕ) → AreBlocksFrom low blocks → owns blocks domain address ≡ true → (0x0200 ≤ address) × (address < 0x0E00)
+owned_from : (low : ℕ) (blocks : List Segment) (domain address : ℕ) → AreBlocksFrom low blocks → owns blocks domain address ≡ true → (heap_start ≤ address) × (address < red_zone_start)
 owned_from low [] domain address fit e = absurd (cc)
 owned_from low (s ∷ ss) domain address fit e =
     elim (or_cases (s.owner == domain && covers s address) (owns ss domain address) e) [
@@ -28,7 +28,7 @@ owned_from low (s ∷ ss) domain address fit e =
       | inr later ↦ owned_from (s.first + s.count) ss domain address fit.1 later
     ]
 
-pub owned_in_heap : (blocks : List Segment) (domain address : ℕ) → AreBlocks blocks → owns blocks domain address ≡ true → (0x0200 ≤ address) × (address < 0x0E00)
+pub owned_in_heap : (blocks : List Segment) (domain address : ℕ) → AreBlocks blocks → owns blocks domain address ≡ true → (heap_start ≤ address) × (address < red_zone_start)
 owned_in_heap blocks domain address fit e = owned_from 0 blocks domain address fit e
 
 -- the least number that passes a test is one of them, and passes
@@ -51,7 +51,7 @@ free_domain_is_free modules domain e =
     (omega (arith, found.0), not-true (in_use modules domain) found.1)
 
 -- blocks that fit end within the heap
-pub fit_within : (blocks : List Segment) (count first : ℕ) → 1 ≤ count → fit blocks count ≡ Some first → first + count ≤ 384
+pub fit_within : (blocks : List Segment) (count first : ℕ) → 1 ≤ count → fit blocks count ≡ Some first → first + count ≤ block_count
 fit_within blocks count first some e = ((fit-some blocks count first some).0 e).fits.0
 
 -- a request for bytes is one for blocks
@@ -76,7 +76,7 @@ pub record GoodGiven (k : KernelState) (domain : ℕ) (g : Given) : Type 0 where
   pub owners : (modules : List Loaded) → AreOwned modules k.blocks → in_use modules domain ≡ true → AreOwned modules g.blocks
   pub memory : length g.memory ≡ length k.processor.memory
 
-given_at_good : (o : Option ℕ) (k : KernelState) (domain count : ℕ) (g : Given) → AreBlocks k.blocks → length k.processor.memory ≡ 4096 → domain < domain_count → 1 ≤ count → fit k.blocks count ≡ o → given_at o k domain count ≡ Some g → GoodGiven k domain g
+given_at_good : (o : Option ℕ) (k : KernelState) (domain count : ℕ) (g : Given) → AreBlocks k.blocks → length k.processor.memory ≡ ram_bytes → domain < domain_count → 1 ≤ count → fit k.blocks count ≡ o → given_at o k domain count ≡ Some g → GoodGiven k domain g
 given_at_good None k domain count g blocks memory below some e h = absurd (none-some g h)
 given_at_good (Some first) k domain count g blocks memory below some e h =
     let least = (fit-some k.blocks count first some).0 e in
@@ -91,14 +91,14 @@ given_at_good (Some first) k domain count g blocks memory below some e h =
       memory = zeros_length k.processor.memory (block_address first - ram_start) (block_bytes * count) (omega (arith, memory, least.fits.0));
     })
 
-given_where_good : (b : Bool) (k : KernelState) (domain size : ℕ) (g : Given) → AreBlocks k.blocks → length k.processor.memory ≡ 4096 → domain < domain_count → (size == 0) ≡ b → given_where b k domain size ≡ Some g → GoodGiven k domain g
+given_where_good : (b : Bool) (k : KernelState) (domain size : ℕ) (g : Given) → AreBlocks k.blocks → length k.processor.memory ≡ ram_bytes → domain < domain_count → (size == 0) ≡ b → given_where b k domain size ≡ Some g → GoodGiven k domain g
 given_where_good true k domain size g blocks memory below e h =
     let made : Given = record { blocks = k.blocks; memory = k.processor.memory; address = 0 } in
     subst (GoodGiven k domain) (same_Some made g h) (record { blocks = blocks; owners = λ modules owned own. owned; memory = refl })
 given_where_good false k domain size g blocks memory below e h =
     given_at_good (fit k.blocks (blocks_for size)) k domain (blocks_for size) g blocks memory below (some_blocks size e) refl h
 
-pub given_good : (k : KernelState) (domain size : ℕ) (g : Given) → AreBlocks k.blocks → length k.processor.memory ≡ 4096 → domain < domain_count → given k domain size ≡ Some g → GoodGiven k domain g
+pub given_good : (k : KernelState) (domain size : ℕ) (g : Given) → AreBlocks k.blocks → length k.processor.memory ≡ ram_bytes → domain < domain_count → given k domain size ≡ Some g → GoodGiven k domain g
 given_good k domain size g blocks memory below h = given_where_good (size == 0) k domain size g blocks memory below refl h
 
 -- a module comes in: the old blocks keep their owners

@@ -20,7 +20,7 @@ use Rattle.domain_model.specs.declared.fault.UnitEnd.TheVariants.{On, Over, Faul
 use Rattle.domain_model.specs.declared.line.TraceLine.{TraceLine}
 use Rattle.domain_model.specs.Prepared.{Module, Prep}
 use Rattle.domain_model.specs.Units.{AreProper, Service, PostShort, Say, MyId, service_of}
-use Rattle.domain_model.specs.State.{Loaded, Processor, Message, KernelState, RunnerState, with_processor, with_pair, frame_of, dispatched}
+use Rattle.domain_model.specs.State.{Loaded, Processor, Message, radio, KernelState, RunnerState, with_processor, with_pair, frame_of, dispatched}
 use Rattle.domain_model.specs.Act.{Acted, act, act_running, act_at, act_store, act_return, act_call, answered, id_at, is_loaded, message_of, post_where, post_to, plain_effect, store_effect, store_address, may_store, bank, next_unit}
 use Rattle.domain_model.specs.Free.{SameKernel, with_memory, unit_free, UnitStep}
 use Rattle.domain_model.specs.Turn.{in_use, module_named, without_domain, unnamed, free_domain, Given, given, seated, init_to, final_to, Moved, loaded, load_given, load_in, load_new, load_prepared, load_image, unload_module, deliver, dispatch, begun, came, ended, close_module, close, settled, faulted, purged, handler_ended, at_clock, placed, emptied, entered}
@@ -120,7 +120,7 @@ ended_good k r h = kept_good k (ended (handler_ended k)) r r refl refl refl refl
 known_more : (modules more : List Loaded) → ((id : ℕ) → is_loaded modules id ≡ true → is_loaded more id ≡ true) → (m : Message) → IsKnown modules m → IsKnown more m
 known_more modules more f m h = record { receiver = f m.to h.receiver; sender = still h.sender }
   where
-    still : ((m.from ≡ 0) ⊎ (m.from ≡ 255)) ⊎ (is_loaded modules m.from ≡ true) → ((m.from ≡ 0) ⊎ (m.from ≡ 255)) ⊎ (is_loaded more m.from ≡ true)
+    still : ((m.from ≡ 0) ⊎ (m.from ≡ radio)) ⊎ (is_loaded modules m.from ≡ true) → ((m.from ≡ 0) ⊎ (m.from ≡ radio)) ⊎ (is_loaded more m.from ≡ true)
     still (inl other) = inl other
     still (inr there) = inr (f m.from there)
 
@@ -140,7 +140,7 @@ known_without modules row d c m kept h =
       sender = still (eqb-false m.from row.face.id parts.0) h.sender;
     }
   where
-    still : m.from ≢ row.face.id → ((m.from ≡ 0) ⊎ (m.from ≡ 255)) ⊎ (is_loaded modules m.from ≡ true) → ((m.from ≡ 0) ⊎ (m.from ≡ 255)) ⊎ (is_loaded (without_domain row.domain modules) m.from ≡ true)
+    still : m.from ≢ row.face.id → ((m.from ≡ 0) ⊎ (m.from ≡ radio)) ⊎ (is_loaded modules m.from ≡ true) → ((m.from ≡ 0) ⊎ (m.from ≡ radio)) ⊎ (is_loaded (without_domain row.domain modules) m.from ≡ true)
     still ne (inl other) = inl other
     still ne (inr there) = inr (is_loaded_without modules row m.from d c ne there)
 
@@ -283,7 +283,7 @@ new_module r m domain g banks image below =
 dispatched_good : (p : Processor) (state : ℕ) (m : Message) → length p.memory ≡ ram_bytes → GoodProcessor (dispatched p state m)
 dispatched_good p state m memory = record {
   registers = simp length-set refl;
-  memory = length-append (frame_of m) (drop message_frame_bytes p.memory) ∙ omega (arith, memory, length-drop 16 p.memory);
+  memory = length-append (frame_of m) (drop message_frame_bytes p.memory) ∙ omega (arith, memory, length-drop message_frame_bytes p.memory);
 }
 
 pub loaded_good : (k : KernelState) (r : RunnerState) (m : Module) (domain : ℕ) (g : Given) → k.ending ≡ None → GoodMachine k r → GoodImage m → domain < domain_count → in_use k.modules domain ≡ false → is_loaded k.modules m.face.id ≡ false → GoodGiven k domain g → GoodMachine (loaded m domain g k r).kernel (loaded m domain g k r).runner

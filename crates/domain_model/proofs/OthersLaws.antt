@@ -4,7 +4,7 @@ use Rattle.std.proofs.Common.{◌≡◌, ℕ, ◌+◌, ◌<◌, ◌≤◌, inl, 
 use Rattle.std.specs.List.{Contains}
 use Rattle.std.proofs.lemmas.Bool.{and_right, lt-leb, cases_eq}
 use Rattle.mote_base.specs.Messages.{Lists, front}
-use Rattle.mote_layout.specs.Memory.{ram_start, kernel_bytes_start, kernel_bytes_end}
+use Rattle.mote_layout.specs.Memory.{ram_start, kernel_bytes_start, kernel_bytes_end, heap_start, red_zone_start}
 use Rattle.mote_layout.specs.Blocks.{without_owner}
 use Rattle.domain_model.specs.declared.event.Choice.{Choice}
 use Rattle.domain_model.specs.declared.event.Choice.TheVariants.{Stays, Comes, Dispatches, Jumps, Idles, Budgets, Watches, Acts}
@@ -29,10 +29,10 @@ use Rattle.domain_model.proofs.ConfinedLaws.{end_bytes, end_queues}
 use Rattle.domain_model.proofs.UnloadLaws.{IsQuiet, quiet_by, came_quiet, dispatch_quiet, step_quiet, faulted_unloads, settled_unloads}
 
 -- a byte of a block is no byte of the kernel's, and no fault changes it
-heap_byte : (address : ℕ) → (0x0200 ≤ address) × (address < 0x0E00) → is_kernel_byte address ≡ false
+heap_byte : (address : ℕ) → (heap_start ≤ address) × (address < red_zone_start) → is_kernel_byte address ≡ false
 heap_byte address heap = and_right (nat_le kernel_bytes_start address) (nat_le address kernel_bytes_end) (lt-leb address kernel_bytes_end (omega (arith, heap.0)))
 
-no_fault_byte : (k : KernelState) (address : ℕ) → (0x0200 ≤ address) × (address < 0x0E00) → MayChangeAtFault k address → ⊥
+no_fault_byte : (k : KernelState) (address : ℕ) → (heap_start ≤ address) × (address < red_zone_start) → MayChangeAtFault k address → ⊥
 no_fault_byte k address heap (inl stack) = omega (arith, heap.1, stack.0)
 no_fault_byte k address heap (inr byte) = omega (arith, heap.0, byte.1)
 

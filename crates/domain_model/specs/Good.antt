@@ -2,7 +2,7 @@
 use Rattle.std.specs.Prelude.{◌⊎◌, ℕ, ◌≡◌, ◌≢◌, ◌+◌, ◌^◌, ◌<◌, ◌≤◌, List, [], ◌∷◌, length, Option, Some, None, Ok, Err, true, ⊤}
 use Rattle.std.specs.List.{AllByRecursion}
 use Rattle.mote_base.specs.Messages.{Lists, AreWithinLimit}
-use Rattle.mote_layout.specs.Memory.{ram_bytes, domain_count, stack_top, floor}
+use Rattle.mote_layout.specs.Memory.{register_count, ram_bytes, domain_count, stack_top, floor}
 use Rattle.mote_layout.specs.Limits.{unit_limit, handler_limit}
 use Rattle.mote_layout.specs.Blocks.{AreBlocks}
 use Rattle.mote_layout.specs.declared.segment.Segment.{Segment}
@@ -13,13 +13,13 @@ use Rattle.domain_model.specs.declared.handler.Running.{Running}
 use Rattle.domain_model.specs.declared.event.Event.{Event}
 use Rattle.domain_model.specs.Prepared.{Module, Prep}
 use Rattle.domain_model.specs.Units.{AreProper}
-use Rattle.domain_model.specs.State.{Processor, Message, Loaded, KernelState, RunnerState, State}
+use Rattle.domain_model.specs.State.{Processor, Message, radio, Loaded, KernelState, RunnerState, State}
 use Rattle.domain_model.specs.Act.{bank, id_at, is_loaded}
 use Rattle.domain_model.specs.Turn.{in_use}
 
--- The processor has 32 registers and 4096 bytes of memory.
+-- The processor has all its registers and all bytes of its memory.
 pub record GoodProcessor (p : Processor) : Type 0 where
-  pub registers : length p.registers ≡ 32
+  pub registers : length p.registers ≡ register_count
   pub memory : length p.memory ≡ ram_bytes
 
 -- The unit at which a dispatch starts is one of these, and so is that of each function that the face provides.
@@ -58,10 +58,10 @@ pub record GoodRunning (k : KernelState) (r : RunnerState) (run : Running) : Typ
   pub bound : run.base ≤ run.bound
   pub top : (run.base ≡ stack_top) × (run.bound ≡ stack_top)
 
--- A message's receiver is loaded, and its sender is the kernel, the radio (255) or loaded.
+-- A message's receiver is loaded, and its sender is the kernel, the radio or loaded.
 pub record IsKnown (modules : List Loaded) (m : Message) : Type 0 where
   pub receiver : is_loaded modules m.to ≡ true
-  pub sender : ((m.from ≡ 0) ⊎ (m.from ≡ 255)) ⊎ (is_loaded modules m.from ≡ true)
+  pub sender : ((m.from ≡ 0) ⊎ (m.from ≡ radio)) ⊎ (is_loaded modules m.from ≡ true)
 
 abbrev pub GoodHand : List Loaded → Option Message → Type 0
 GoodHand modules None = ⊥

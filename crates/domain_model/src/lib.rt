@@ -24,8 +24,6 @@ mod line;
 mod lines;
 mod refusal;
 mod request;
-#[cfg(test)]
-mod tests;
 
 pub use event::{Choice, Event, Turned, What};
 pub use fault::{FaultNote, Rule, UnitEnd};

@@ -7,8 +7,6 @@
 #![tactic(auto)]
 
 mod map;
-#[cfg(test)]
-mod tests;
 
 pub use map::MemoryMap;
 pub use mote_layout::Segment;

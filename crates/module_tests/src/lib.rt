@@ -1,5 +1,9 @@
-//! Tests of the public calls of what reads and writes modules.
+//! Tests of the crates that read and write modules: of their public calls alone.
 #![tactic(auto)]
 
 #[cfg(test)]
 mod image;
+#[cfg(test)]
+mod lines;
+#[cfg(test)]
+mod units;

@@ -18,8 +18,6 @@ mod limits;
 mod memory;
 mod page;
 mod segment;
-#[cfg(test)]
-mod tests;
 
 pub use laws::{blocks_laws, least_fit_laws, segment_laws};
 pub use limits::{

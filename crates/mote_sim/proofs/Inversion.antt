@@ -6,6 +6,7 @@ use Rattle.mote_base.specs.Files.{Named, held}
 use Rattle.mote_base.specs.Written.{Grows}
 use Rattle.mote_base.specs.declared.fault.Status.{Status}
 use Rattle.mote_base.specs.declared.fault.Status.TheVariants.{Done, Usage, Refused}
+use Rattle.mote_layout.specs.Limits.{script_limit, image_limit}
 use Rattle.unit_code.specs.declared.error.CodeError.{CodeError}
 use Rattle.unit_code.specs.Units.{refusal, listed}
 use Rattle.module_image.specs.declared.error.ImageError.{ImageError}
@@ -23,7 +24,7 @@ use Rattle.mote_sim.specs.Listing.{listing_text}
 use Rattle.mote_sim.specs.Outcome.{Outcome, NoCommand, Unheld, TooLong, Unbuilt, Runs, BadImage, BadCode, Lists, outcome, outcome_of, outcome_by, outcome_with, outcome_of_code, outcome_of_contents, outcome_of_image, Answers, MayFind, AnswersOver, usage_line}
 use Rattle.mote_sim.specs.Reading.{Gathered, Whole, Longer, Missing, gathered_from, gathered_file, with_first}
 use Rattle.mote_sim.specs.Trace.{IsTraceOf, run_input, are_built, input_with, input_of}
-use Rattle.mote_sim.proofs.Counts.{HasItsFiles, one_at_least, most_64, one_alone}
+use Rattle.mote_sim.proofs.Counts.{HasItsFiles, one_at_least, most_images, one_alone}
 use Rattle.mote_sim.proofs.Images.{each_built}
 
 -- Where the shelf tells its files, what answers over the shelf answers for them.
@@ -69,9 +70,9 @@ all_whole kind (Longer n) text a = let e : Done ≡ Refused = a.0 in absurd (cc)
 all_whole kind Missing text a = absurd a
 
 -- What files other than the first come to: they are images within their limit.
-image_limit : (number : ℕ) → 1 ≤ number → limit_of Run number ≡ limit_of Run 1
-image_limit zero low = absurd (omega (arith, low))
-image_limit (suc n) low = ap (λ t. if t then 1048576 else 65536) (eqb-suc-zero n)
+later_limit : (number : ℕ) → 1 ≤ number → limit_of Run number ≡ limit_of Run 1
+later_limit zero low = absurd (omega (arith, low))
+later_limit (suc n) low = ap (λ t. if t then script_limit else image_limit) (eqb-suc-zero n)
 
 images_whole : (number : ℕ) (fs : List Named) (names files : List (List ℕ)) → 1 ≤ number → gathered_from Run number fs names ≡ Whole files → AreImages fs names files
 images_whole number fs [] [] low e = tt
@@ -80,7 +81,7 @@ images_whole number fs (name ∷ names) files low e =
     let one = first_of number (limit_of Run number) (held fs name) (gathered_from Run (number + 1) fs names) files e in
     let others = images_whole (number + 1) fs names one.rest (omega (arith, low)) one.others_are in
     subst (AreImages fs (name ∷ names)) (sym one.files_are)
-    (one.held, subst (λ limit. length one.bytes ≤ limit) (image_limit number low) one.fits, others)
+    (one.held, subst (λ limit. length one.bytes ≤ limit) (later_limit number low) one.fits, others)
 
 -- An input that is run is built.
 record Built (images : List (List ℕ)) (events : Option (List Event)) (built : Bool) (text : List ℕ) : Type 0 where
@@ -109,7 +110,7 @@ writes_run fs (s ∷ names) text before new few a written =
       image_names = names;
       named = refl;
       least = one_at_least (length names) few;
-      most = most_64 (length names) few;
+      most = most_images (length names) few;
       script = one.bytes;
       script_held = one.held;
       script_fits = one.fits;

@@ -7,4 +7,3 @@ pub mod Images
 pub mod Counts
 pub mod Inversion
 pub mod Prepared
-pub mod Admitted

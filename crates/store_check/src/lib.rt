@@ -8,8 +8,6 @@
 
 mod stack_pointer;
 mod store;
-#[cfg(test)]
-mod tests;
 mod window;
 
 pub use stack_pointer::{SpCheck, check_sp};

@@ -17,8 +17,6 @@ mod list;
 mod reading;
 mod refusals;
 mod targets;
-#[cfg(test)]
-mod tests;
 mod unit;
 
 pub use bank::BankCode;

@@ -6,7 +6,7 @@ ghost use Rattle.unit_code.specs.Lengths.{instruction_length, spelled_length};
 use avr_isa::Instr;
 
 /// A unit of a module's code. Targets are unit numbers, counted from 0.
-#[derive(Clone, Copy, PartialEq)]
+#[derive(Clone, Copy)]
 pub enum Unit {
     /// An instruction that runs as it stands.
     Plain(Instr),
