@@ -1,5 +1,5 @@
 -- The blocks of the heap under the loaded modules: who owns them, where they lie, and what a state block is.
-use Rattle.std.proofs.Common.{◌≡◌, ℕ, zero, suc, ◌+◌, ◌-◌, ◌*◌, ◌<◌, ◌≤◌, inl, inr, ◌==◌, ◌&&◌, List, [], ◌∷◌, length, not, Bool, true, false, refl, sym, ◌∙◌, subst, arith, Option, Some, None, nat_lt}
+use Rattle.std.proofs.Common.{◌≡◌, ℕ, zero, suc, ◌+◌, ◌-◌, ◌*◌, ◌^◌, ◌<◌, ◌≤◌, inl, inr, ◌==◌, ◌&&◌, List, [], ◌∷◌, length, not, Bool, true, false, refl, sym, ◌∙◌, subst, arith, Option, Some, None, nat_lt}
 use Rattle.std.specs.List.{AllByRecursion}
 use Rattle.std.proofs.lemmas.Bool.{cases_Bool, cond-true, cond-false, cond_both, eqb-false, or_cases, and_parts, not-true}
 use Rattle.std.proofs.lemmas.Option.{none-some, same_Some}
@@ -11,9 +11,11 @@ use Rattle.mote_layout.specs.declared.segment.Segment.{Segment}
 use Rattle.mote_layout.proofs.BlockLists.{AreBlocks-inserted}
 use Rattle.mote_layout.proofs.Owners.{covers-true}
 use Rattle.mote_layout.proofs.LeastFit.{fit-some}
+use Rattle.domain_model.specs.Bytes.{AreBytes}
 use Rattle.domain_model.specs.State.{Loaded, KernelState, with_zeros}
 use Rattle.domain_model.specs.Turn.{in_use, free_domain, Given, given_at, given_where, given, without_domain}
 use Rattle.domain_model.specs.Good.{AreOwned}
+use Rattle.domain_model.proofs.ByteLists.{zeros_bytes}
 use Rattle.domain_model.proofs.Kept.{each_weaker, each_filter}
 use Rattle.domain_model.proofs.ModuleLaws.{in_use_without, other_domain}
 
@@ -70,11 +72,14 @@ each_inserted P s (t ∷ ts) p h =
     (λ before. (p, h))
     (λ after. (h.0, each_inserted P s ts p h.1))
 
--- What a state block leaves: *Blocks*, whose owners are the old ones and the domain, and a memory as long.
+-- What a state block leaves: *Blocks*, whose owners are the old ones and the domain, a memory as long and of bytes, and
+-- its address, which is a word.
 pub record GoodGiven (k : KernelState) (domain : ℕ) (g : Given) : Type 0 where
   pub blocks : AreBlocks g.blocks
   pub owners : (modules : List Loaded) → AreOwned modules k.blocks → in_use modules domain ≡ true → AreOwned modules g.blocks
   pub memory : length g.memory ≡ length k.processor.memory
+  pub bytes : AreBytes k.processor.memory → AreBytes g.memory
+  pub address : g.address < 2 ^ 16
 
 given_at_good : (o : Option ℕ) (k : KernelState) (domain count : ℕ) (g : Given) → AreBlocks k.blocks → length k.processor.memory ≡ ram_bytes → domain < domain_count → 1 ≤ count → fit k.blocks count ≡ o → given_at o k domain count ≡ Some g → GoodGiven k domain g
 given_at_good None k domain count g blocks memory below some e h = absurd (none-some g h)
@@ -89,12 +94,14 @@ given_at_good (Some first) k domain count g blocks memory below some e h =
       blocks = AreBlocks-inserted (record { first = first; count = count; owner = domain }) k.blocks some (omega (arith, below)) least.fits blocks;
       owners = λ modules owned own. each_inserted (λ (b : Segment). in_use modules b.owner ≡ true) (record { first = first; count = count; owner = domain }) k.blocks own owned;
       memory = zeros_length k.processor.memory (block_address first - ram_start) (block_bytes * count) (omega (arith, memory, least.fits.0));
+      bytes = zeros_bytes k.processor.memory (block_address first - ram_start) (block_bytes * count);
+      address = omega (arith, least.fits.0);
     })
 
 given_where_good : (b : Bool) (k : KernelState) (domain size : ℕ) (g : Given) → AreBlocks k.blocks → length k.processor.memory ≡ ram_bytes → domain < domain_count → (size == 0) ≡ b → given_where b k domain size ≡ Some g → GoodGiven k domain g
 given_where_good true k domain size g blocks memory below e h =
     let made : Given = record { blocks = k.blocks; memory = k.processor.memory; address = 0 } in
-    subst (GoodGiven k domain) (same_Some made g h) (record { blocks = blocks; owners = λ modules owned own. owned; memory = refl })
+    subst (GoodGiven k domain) (same_Some made g h) (record { blocks = blocks; owners = λ modules owned own. owned; memory = refl; bytes = λ h. h; address = omega arith })
 given_where_good false k domain size g blocks memory below e h =
     given_at_good (fit k.blocks (blocks_for size)) k domain (blocks_for size) g blocks memory below (some_blocks size e) refl h
 

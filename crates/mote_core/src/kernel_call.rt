@@ -4,8 +4,8 @@ ghost use Rattle.mote_layout.specs.Blocks.{AreBlocks};
 ghost use Rattle.mote_layout.specs.Memory.{domain_count, ram_end, ram_start, register_count};
 ghost use Rattle.domain_model.specs.State.{no_kernel, with_processor, with_register, with_byte};
 ghost use Rattle.domain_model.specs.Act.{id_at, is_loaded, may_store, answered, message_of, post_short};
-ghost use Rattle.domain_model.specs.Turn.{module_named, free_domain, given, begun, ended, handler_ended, purged, unnamed, at_clock};
-ghost use Rattle.mote_base.specs.Messages.{front, without_front};
+ghost use Rattle.domain_model.specs.Turn.{module_named, free_domain, given, begun, with_none_ending, handler_ended, purged, at_clock};
+ghost use Rattle.mote_base.specs.Messages.{front, without_front, unnamed};
 ghost use Rattle.mote_core.specs.Kernel.{given_as, with_memory_and_blocks};
 
 use crate::avr_machine::Cpu;
@@ -118,7 +118,8 @@ impl Kernel {
 
     /// The module with that id.
     pub fn module_named(&self, id: u8) -> Option<&Loaded>
-        ensures { MatchOption result (module_named self.now.modules id ≡ None) (λ m. module_named self.now.modules id ≡ Some m.now) }
+        ensures { MatchOption result (module_named self.now.modules id ≡ None)
+            (λ m. module_named self.now.modules id ≡ Some m.now) }
     {
         self.modules.named(id)
     }
@@ -262,8 +263,8 @@ impl Kernel {
     }
 
     /// No module ends any more.
-    pub fn close(&mut self)
-        ensures { self.new ≡ ended self.old }
+    pub fn clear_ending(&mut self)
+        ensures { self.new ≡ with_none_ending self.old }
     {
         self.ending = None;
     }

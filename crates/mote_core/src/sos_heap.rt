@@ -57,7 +57,8 @@ impl Blocks {
         ensures same { IfNone result (self.new ≡ self.old) }
         ensures least { IfSome result (λ first. fit self.old count ≡ Some first) }
         ensures inside { IfSome result (λ first. first + count ≤ block_count) }
-        ensures given { IfSome result (λ first. self.new ≡ inserted (record { first = first; count = count; owner = domain }) self.old) }
+        ensures given { IfSome result
+            (λ first. self.new ≡ inserted (record { first = first; count = count; owner = domain }) self.old) }
         ensures blocks { AreBlocks self.new }
     {
         let first = fit(self.segments.as_slice(), count)?;
@@ -116,7 +117,8 @@ fn fits(segments: &[Segment], first: u16, count: u16) -> bool
 
 // Whether a segment has none of the blocks of a run.
 fn misses(segment: &Segment, first: u16, count: u16) -> bool
-    ensures { result ≡ (nat_le (segment.now.first + segment.now.count) first || nat_le (first + count) segment.now.first) }
+    ensures { result ≡ (nat_le (segment.now.first + segment.now.count) first
+        || nat_le (first + count) segment.now.first) }
 {
     let start = u32::from(segment.first);
     let end = u32::from(first) + u32::from(count);

@@ -134,7 +134,8 @@ fn refuse(number: u8, image: u8, k: &Kernel, lines: &mut Lines)
 // Writes the line of a file that holds no module.
 fn refuse_file(refusal: &Refusal, image: u8, k: &Kernel, lines: &mut Lines)
     requires { length lines.old < turn_lines }
-    ensures { lines.new ≡ lines.old ++ TraceLine.Refused k.now.clock image (refusal_number refusal.now) (refusal_kind refusal.now) (refusal_value refusal.now) (refusal_detail refusal.now) ∷ [] }
+    ensures { lines.new ≡ lines.old ++ TraceLine.Refused k.now.clock image (refusal_number refusal.now)
+        (refusal_kind refusal.now) (refusal_value refusal.now) (refusal_detail refusal.now) ∷ [] }
 {
     lines.add(TraceLine::Refused {
         time: k.clock(),
@@ -201,7 +202,8 @@ fn start(row: &ModuleRow, k: &mut Kernel, r: &mut PlainRunner, lines: &mut Lines
     requires empty { lines.old ≡ [] }
     ensures kernel { k.new ≡ begun k.old row.now.domain row.now.state (init_to row.now.id) }
     ensures runner { r.new ≡ entered r.old row.now.handler }
-    ensures lines { lines.new ≡ TraceLine.Load k.old.clock row.now.id row.now.domain row.now.state ∷ TraceLine.Run k.old.clock row.now.id 0 0 ∷ [] }
+    ensures lines { lines.new ≡ TraceLine.Load k.old.clock row.now.id row.now.domain row.now.state ∷
+        TraceLine.Run k.old.clock row.now.id 0 0 ∷ [] }
 {
     let time = k.clock();
     lines.add(TraceLine::Load {
@@ -242,11 +244,11 @@ pub fn stop(note: FaultNote, run: &Running, k: &mut Kernel, r: &mut PlainRunner,
     k.end_handler();
     k.purge(id, run.domain);
     r.empty(run.domain);
-    close(k, r, lines);
+    purge_ending(k, r, lines);
 }
 
 // Takes the module that ends out, where it is still loaded.
-fn close(k: &mut Kernel, r: &mut PlainRunner, lines: &mut Lines)
+fn purge_ending(k: &mut Kernel, r: &mut PlainRunner, lines: &mut Lines)
     requires modules { AreInDomains k.old.modules }
     requires room { length lines.old < turn_lines }
     ensures kernel { k.new ≡ (close k.old.ending k.old r.old lines.old).kernel }
@@ -265,7 +267,7 @@ fn close(k: &mut Kernel, r: &mut PlainRunner, lines: &mut Lines)
         k.purge(row.id, row.domain);
         r.empty(row.domain);
     }
-    k.close();
+    k.clear_ending();
 }
 
 /// Does what the end of a unit asks for.
@@ -291,7 +293,7 @@ pub fn settle(
                 id: k.id_at(run.domain),
             });
             k.end_handler();
-            close(k, r, lines);
+            purge_ending(k, r, lines);
         }
         UnitEnd::Fault(note) => stop(note, run, k, r, lines),
     }

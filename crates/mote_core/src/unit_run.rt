@@ -251,7 +251,8 @@ impl PlainRunner {
 fn say(run: &Running, k: &mut Kernel, lines: &mut Lines)
     requires { length lines.old + 8 ≤ turn_lines }
     ensures kernel { k.new ≡ answered k.old 0 }
-    ensures lines { lines.new ≡ lines.old ++ TraceLine.Say k.old.clock (id_at k.old.modules run.now.domain) (register k.old.processor BYTE) ∷ [] }
+    ensures lines { lines.new ≡ lines.old ++ TraceLine.Say k.old.clock (id_at k.old.modules run.now.domain)
+        (register k.old.processor BYTE) ∷ [] }
 {
     let byte = k.cpu().register(BYTE);
     lines.add(TraceLine::Say {

@@ -28,12 +28,12 @@ use Rattle.mote_sim.proofs.Counts.{HasItsFiles, one_at_least, most_images, one_a
 use Rattle.mote_sim.proofs.Images.{each_built}
 
 -- Where the shelf tells its files, what answers over the shelf answers for them.
-found_is : (files : Option (List Named)) (command : Option Command) (fs : List Named) (found : Outcome) → files ≡ Some fs → MayFind files command found → found ≡ outcome command fs
-found_is files None fs found told may = may
-found_is files (Some c) fs found told may = may.is ∙ ap (outcome_of c.kind) (sym (may.told fs told))
+found_is : (files : Option (List Named)) (came : Command → Gathered → Type 0) (command : Option Command) (fs : List Named) (found : Outcome) → files ≡ Some fs → MayFind files came command found → found ≡ outcome command fs
+found_is files came None fs found told may = may
+found_is files came (Some c) fs found told may = may.is ∙ ap (outcome_of c.kind) (sym (may.told fs told))
 
-pub over_told : (files : Option (List Named)) (command : Option Command) (fs : List Named) (s : Status) (text : List ℕ) → files ≡ Some fs → AnswersOver files command s text → Answers (outcome command fs) s text
-over_told files command fs s text told a = subst (λ found. Answers found s text) (found_is files command fs a.found told a.may) a.answer
+pub over_told : (files : Option (List Named)) (came : Command → Gathered → Type 0) (command : Option Command) (fs : List Named) (s : Status) (text : List ℕ) → files ≡ Some fs → AnswersOver files came command s text → Answers (outcome command fs) s text
+over_told files came command fs s text told a = subst (λ found. Answers found s text) (found_is files came command fs a.found told a.may) a.answer
 
 -- The first of files that are all whole is held, and within its limit.
 record First (limit : ℕ) (content : Option (List ℕ)) (others : Gathered) (files : List (List ℕ)) : Type 0 where
@@ -217,13 +217,13 @@ is_command kind (Whole files) e = by_is_command kind files e
 is_command kind (Longer n) e = cc
 is_command kind Missing e = cc
 
-no_command : (files : Option (List Named)) (command : Option Command) (found : Outcome) → found ≡ NoCommand → MayFind files command found → command ≡ None
-no_command files None found is may = refl
-no_command files (Some c) found is may = absurd (is_command c.kind may.bytes (sym may.is ∙ is))
+no_command : (files : Option (List Named)) (came : Command → Gathered → Type 0) (command : Option Command) (found : Outcome) → found ≡ NoCommand → MayFind files came command found → command ≡ None
+no_command files came None found is may = refl
+no_command files came (Some c) found is may = absurd (is_command c.kind may.bytes (sym may.is ∙ is))
 
-pub usage_answers : (files : Option (List Named)) (command : Option Command) (text : List ℕ) → AnswersOver files command Usage text → (command ≡ None) × (text ≡ usage_line)
-usage_answers files command text a =
-    let u = usage_outcome a.found text a.answer in (no_command files command a.found u.0 a.may, u.1)
+pub usage_answers : (files : Option (List Named)) (came : Command → Gathered → Type 0) (command : Option Command) (text : List ℕ) → AnswersOver files came command Usage text → (command ≡ None) × (text ≡ usage_line)
+usage_answers files came command text a =
+    let u = usage_outcome a.found text a.answer in (no_command files came command a.found u.0 a.may, u.1)
 
 -- Refused answers a refusal, with its line.
 pub refuses : (found : Outcome) (text : List ℕ) (old new : Option (List ℕ)) → Answers found Refused text → Grows old new text → Refuses found old new

@@ -629,3 +629,18 @@ fn sizes_are_tested_in_order(rt: HostRuntime) -> Result<(), Fail> {
     }
     Ok(())
 }
+
+/// A script that is too long is told before the next file is asked for, which isn't there.
+#[test]
+fn size_comes_before_the_next_file(rt: HostRuntime) -> Result<(), Fail> {
+    let alloc = rt.alloc();
+    let script = vec![in alloc; 0u8; 1_048_577usize]?;
+    let mut shelf = shelf_with(alloc, &script, &[], NEVER)?;
+    let mut out = MemSink::new(alloc, 1000, vec![in alloc]?)?;
+    assert_eq!(rt;
+        answer(alloc, "run s x", &mut shelf, &mut out)?,
+        Status::Refused
+    );
+    assert_eq!(rt; out.bytes(), b"refused size 0\n".as_slice());
+    Ok(())
+}

@@ -1,5 +1,5 @@
 use Rattle.mote_core.proofs.RowLaws.{named_in_domain}
-use Rattle.mote_core.proofs.turns.close.Goals as goal
+use Rattle.mote_core.proofs.turns.purge_ending.Goals as goal
 
 pub empty-requires : goal.empty-requires
 empty-requires c = record {
