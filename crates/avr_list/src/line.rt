@@ -39,6 +39,7 @@ fn add_unit(line: &mut Line, unit: &Unit)
     match unit {
         Unit::Plain(instruction) => add_instruction(line, instruction),
         Unit::Store(instruction) => add_instruction(line, instruction),
+        Unit::Load(instruction) => add_instruction(line, instruction),
         Unit::Skip(instruction) => add_instruction(line, instruction),
         Unit::Push(r) => add_one(line, b"push", Register(*r)),
         Unit::Pop(d) => add_one(line, b"pop", Register(*d)),

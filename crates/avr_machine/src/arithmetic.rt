@@ -31,7 +31,7 @@ impl Cpu {
         ensures { self.new ≡ after (added self.old d operand carry) self.old }
     {
         let (sum, sreg) = add8(self.register(d), operand, carry, self.sreg);
-        self.set_register(d, sum);
+        self.write_register(d, sum);
         self.sreg = sreg;
     }
 
@@ -42,7 +42,7 @@ impl Cpu {
     {
         let borrow = chained && self.carry();
         let (difference, sreg) = sub8(self.register(d), operand, borrow, chained, self.sreg);
-        self.set_register(d, difference);
+        self.write_register(d, difference);
         self.sreg = sreg;
     }
 
@@ -61,7 +61,7 @@ impl Cpu {
         ensures { self.new ≡ after (combined self.old op d operand) self.old }
     {
         let (byte, sreg) = logic8(op, self.register(d), operand, self.sreg);
-        self.set_register(d, byte);
+        self.write_register(d, byte);
         self.sreg = sreg;
     }
 
@@ -70,7 +70,7 @@ impl Cpu {
         ensures { self.new ≡ after (changed self.old op d) self.old }
     {
         let (byte, sreg) = one8(op, self.register(d), self.sreg);
-        self.set_register(d, byte);
+        self.write_register(d, byte);
         self.sreg = sreg;
     }
 
@@ -80,7 +80,7 @@ impl Cpu {
             self.old }
     {
         let (byte, _) = one8(One::Swap, self.register(d), self.sreg);
-        self.set_register(d, byte);
+        self.write_register(d, byte);
     }
 
     pub(crate) fn multiply(&mut self, op: Mul, d: u8, r: u8)
@@ -89,7 +89,7 @@ impl Cpu {
         ensures { self.new ≡ after (multiplied self.old op d r) self.old }
     {
         let (product, sreg) = mul8(op, self.register(d), self.register(r), self.sreg);
-        self.set_pair(0, product);
+        self.write_pair(0, product);
         self.sreg = sreg;
     }
 
@@ -99,7 +99,7 @@ impl Cpu {
             ∷ set_sreg (sreg_of (word_add_flags (pair self.old d) constant (flags_of self.old.sreg))) ∷ []) self.old }
     {
         let (sum, sreg) = word_add(self.pair(d), constant, self.sreg);
-        self.set_pair(d, sum);
+        self.write_pair(d, sum);
         self.sreg = sreg;
     }
 
@@ -109,7 +109,7 @@ impl Cpu {
             ∷ set_sreg (sreg_of (word_sub_flags (pair self.old d) constant (flags_of self.old.sreg))) ∷ []) self.old }
     {
         let (difference, sreg) = word_sub(self.pair(d), constant, self.sreg);
-        self.set_pair(d, difference);
+        self.write_pair(d, difference);
         self.sreg = sreg;
     }
 
@@ -138,6 +138,6 @@ impl Cpu {
         ensures { self.new ≡ after (set_register d (with_bit (register self.old d) bit (transfer self.old)) ∷ []) self.old }
     {
         let byte = with_bit(self.register(d), bit, is_set(self.sreg, TRANSFER));
-        self.set_register(d, byte);
+        self.write_register(d, byte);
     }
 }

@@ -11,6 +11,7 @@ mod arithmetic;
 mod cpu;
 mod flash;
 mod flow;
+mod laws;
 mod parts;
 mod plain;
 mod step;
@@ -18,4 +19,5 @@ mod transfer;
 
 pub use cpu::Cpu;
 pub use flash::Flash;
+pub use laws::{bank_laws, counter_laws, memory_laws, mode_laws, return_laws};
 pub use step::Stepped;

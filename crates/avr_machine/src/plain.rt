@@ -25,7 +25,7 @@ impl Cpu {
     {
         match *i {
             Instr::Nop => {}
-            Instr::Movw(d, r) => self.set_pair(d, self.pair(r)),
+            Instr::Movw(d, r) => self.write_pair(d, self.pair(r)),
             Instr::Muls(d, r) => self.multiply(Mul::S, d, r),
             Instr::Mulsu(d, r) => self.multiply(Mul::SU, d, r),
             Instr::Fmul(d, r) => self.multiply(Mul::FU, d, r),
@@ -40,7 +40,7 @@ impl Cpu {
             Instr::And(d, r) => self.combine(Logic::And, d, self.register(r)),
             Instr::Eor(d, r) => self.combine(Logic::Eor, d, self.register(r)),
             Instr::Or(d, r) => self.combine(Logic::Or, d, self.register(r)),
-            Instr::Mov(d, r) => self.set_register(d, self.register(r)),
+            Instr::Mov(d, r) => self.write_register(d, self.register(r)),
             Instr::Cpi(d, constant) => self.compare(d, constant, false),
             Instr::Sbci(d, constant) => self.subtract(d, constant, true),
             Instr::Subi(d, constant) => self.subtract(d, constant, false),
@@ -73,7 +73,7 @@ impl Cpu {
             Instr::LdXDec(d) => self.load_falling(POINTER_X, d),
             Instr::Pop(d) => {
                 let byte = self.pop();
-                self.set_register(d, byte);
+                self.write_register(d, byte);
             }
             Instr::Sts(r, address) => self.store(address, r),
             Instr::StZInc(r) => self.store_rising(POINTER_Z, r),
@@ -111,7 +111,7 @@ impl Cpu {
             Instr::Mul(d, r) => self.multiply(Mul::U, d, r),
             Instr::In(d, port) => self.input(d, port),
             Instr::Out(r, port) => self.output(r, port),
-            Instr::Ldi(d, constant) => self.set_register(d, constant),
+            Instr::Ldi(d, constant) => self.write_register(d, constant),
             Instr::Bld(d, bit) => self.put_bit(d, bit),
             Instr::Bst(d, bit) => self.keep_bit(d, bit),
             _ => unreachable!(),

@@ -16,8 +16,8 @@ impl Cpu {
         requires { d < register_count }
         ensures { self.new ≡ after (set_register d (data_read self.old address) ∷ []) self.old }
     {
-        let byte = self.rd(address);
-        self.set_register(d, byte);
+        let byte = self.read(address);
+        self.write_register(d, byte);
     }
 
     pub(crate) fn load_behind(&mut self, pointer: u8, d: u8, q: u8)
@@ -36,7 +36,7 @@ impl Cpu {
     {
         let address = self.pair(pointer);
         self.load(d, address);
-        self.set_pair(pointer, address.wrapping_add(1));
+        self.write_pair(pointer, address.wrapping_add(1));
     }
 
     pub(crate) fn load_falling(&mut self, pointer: u8, d: u8)
@@ -45,7 +45,7 @@ impl Cpu {
         ensures { self.new ≡ after (load_falling self.old pointer d) self.old }
     {
         let address = self.pair(pointer).wrapping_sub(1);
-        self.set_pair(pointer, address);
+        self.write_pair(pointer, address);
         self.load(d, address);
     }
 
@@ -56,7 +56,7 @@ impl Cpu {
         ensures { self.new ≡ after (set_byte address (register self.old r) ∷ []) self.old }
     {
         let byte = self.register(r);
-        self.set_ram(address, byte);
+        self.write_byte(address, byte);
     }
 
     pub(crate) fn store_behind(&mut self, pointer: u8, r: u8, q: u8)
@@ -77,7 +77,7 @@ impl Cpu {
     {
         let address = self.pair(pointer);
         self.store(address, r);
-        self.set_pair(pointer, address.wrapping_add(1));
+        self.write_pair(pointer, address.wrapping_add(1));
     }
 
     pub(crate) fn store_falling(&mut self, pointer: u8, r: u8)
@@ -88,15 +88,15 @@ impl Cpu {
     {
         let byte = self.register(r);
         let address = self.pair(pointer).wrapping_sub(1);
-        self.set_pair(pointer, address);
-        self.set_ram(address, byte);
+        self.write_pair(pointer, address);
+        self.write_byte(address, byte);
     }
 
     pub(crate) fn push(&mut self, byte: u8)
         requires { IsInMemory self.old.sp }
         ensures { self.new ≡ after (pushed self.old byte) self.old }
     {
-        self.set_ram(self.sp, byte);
+        self.write_byte(self.sp, byte);
         self.sp = self.sp.wrapping_sub(1);
     }
 
@@ -106,7 +106,7 @@ impl Cpu {
         ensures byte { result ≡ popped self.old }
     {
         self.sp = self.sp.wrapping_add(1);
-        self.rd(self.sp)
+        self.read(self.sp)
     }
 
     pub(crate) fn input(&mut self, d: u8, port: u8)

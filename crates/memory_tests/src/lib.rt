@@ -11,6 +11,6 @@ mod checks;
 #[cfg(test)]
 mod heap;
 #[cfg(test)]
-mod map;
+mod layout;
 #[cfg(test)]
-mod page;
+mod map;

@@ -1,6 +1,6 @@
 //! Files with one field changed, cut or lengthened, and the way from values to a file and back.
 
-use module_image::{Provided, Subscribed, parse, write_image};
+use module_image::{Provided, Subscribed, parse, write_image, write_image2};
 use std::test::Fail;
 
 /// Module 1, with nothing provided or subscribed, and four words of code.
@@ -10,6 +10,12 @@ const ALONE: [u8; 23] =
 /// Module 7, with two provided functions, a subscription, and one word of code.
 const LINKED: [u8; 37] =
     *b"SOSM\x01\x07\x01\x02\x01\x03\x00\x02\x01\x01\x00\x01!abc\x04\x02\x05~abc\x00\x00\xFE\x09vvv0\x08\x95";
+
+/// The first of them in the second version: as it was, and with three constant bytes behind another code.
+const UPGRADED: [u8; 25] =
+    *b"SOSM\x02\x01\x00\x00\x00\x00\x00\x00\x00\x04\x00\x00\x00\x81\xE4\x0E\x94\x08\xF1\x08\x95";
+const CONSTANT: [u8; 30] = *b"SOSM\x02\x01\x00\x00\x00\x00\x00\x00\x00\x05\x00\x03\x00\
+\xFA\x01\x81\x81\x0E\x94\x08\xF1\x08\x95ABC";
 
 fn refusal(file: &[u8]) -> Option<(u8, u32)> {
     let error = parse(file).err()?;
@@ -158,5 +164,97 @@ fn what_is_read_is_written_again(rt: HostRuntime) -> Result<(), Fail> {
         &[],
     )?;
     assert_eq!(rt; again.as_slice(), file.as_slice());
+    Ok(())
+}
+
+#[test]
+fn the_second_version_is_read(rt: HostRuntime) -> Result<(), Fail> {
+    let plain = parse(&ALONE)?;
+    assert_eq!(rt; (plain.version(), plain.sealed()), (1, false));
+    assert_eq!(rt; plain.constants(), b"".as_slice());
+    let image = parse(&CONSTANT)?;
+    assert_eq!(rt; (image.version(), image.id(), image.state_size()), (2, 1, 0));
+    assert!(rt; !image.rewritten());
+    assert!(rt; !image.sealed());
+    let code = image.code();
+    assert_eq!(rt; code.len(), 5);
+    for (i, want) in [0x01FA, 0x8181, 0x940E, 0xF108, 0x9508].into_iter().enumerate() {
+        if i < code.len() {
+            assert_eq!(rt; code.at(i), want, "word {i}");
+        }
+    }
+    assert_eq!(rt; image.constants(), b"ABC".as_slice());
+    // A place, the byte that is put there, and the refusal.
+    let rows = [
+        (4, 1, Some((5, 25))),
+        (4, 3, Some((3, 3))),
+        (6, 1, None),
+        (6, 3, None),
+        (6, 4, Some((4, 6))),
+        (13, 4, Some((5, 28))),
+        (13, 6, Some((1, 30))),
+        (15, 2, Some((5, 29))),
+        (15, 4, Some((1, 30))),
+        (16, 12, Some((4, 15))),
+        (16, 11, Some((1, 30))),
+    ];
+    for (place, byte, want) in rows {
+        let mut file = CONSTANT;
+        if place < file.len() {
+            file[place] = byte;
+        }
+        assert_eq!(rt; refusal(&file), want, "{byte} at {place}");
+    }
+    Ok(())
+}
+
+#[test]
+fn a_second_version_is_cut_or_lengthened(rt: HostRuntime) -> Result<(), Fail> {
+    for (length, _) in CONSTANT.iter().enumerate() {
+        assert_eq!(rt;
+            refusal(&CONSTANT[..length]),
+            Some((1, length as u32)),
+            "{length}"
+        );
+    }
+    let mut flagged = ALONE;
+    flagged[6] = 2;
+    assert_eq!(rt; refusal(&flagged), Some((4, 6)));
+    let mut many = UPGRADED;
+    many[15] = 1;
+    many[16] = 12;
+    assert_eq!(rt; refusal(&many), Some((4, 15)));
+    assert_eq!(rt; refusal(&many[..17]), Some((4, 15)));
+    assert_eq!(rt; refusal(&many[..16]), Some((1, 16)));
+
+    let header = b"SOSM\x02\x01\x00\x00\x00\x00\x00\x00\x00\x00\x00\x00\x0C";
+    let mut file = header.to_vec(rt.alloc())?;
+    for _ in 0..3072 {
+        file.push(7)?;
+    }
+    assert_eq!(rt; parse(&file)?.constants().len(), 3072);
+    file.pop();
+    assert_eq!(rt; refusal(&file), Some((1, 3088)));
+    file.push(7)?;
+    file.push(7)?;
+    assert_eq!(rt; refusal(&file), Some((5, 3089)));
+    Ok(())
+}
+
+#[test]
+fn the_second_version_is_written(rt: HostRuntime) -> Result<(), Fail> {
+    let image = parse(&ALONE)?;
+    let face = image.face();
+    let code = [0xE481, 0x940E, 0xF108, 0x9508];
+    let again = write_image(rt.alloc(), &face, false, 0, 0, &code)?;
+    assert_eq!(rt; again.as_slice(), ALONE.as_slice());
+    let file = write_image2(rt.alloc(), &face, 0, 0, 0, &code, &[])?;
+    assert_eq!(rt; file.as_slice(), UPGRADED.as_slice());
+    let sealed = write_image2(rt.alloc(), &face, 3, 0, 0, &code, b"AB")?;
+    let back = parse(&sealed)?;
+    assert!(rt; back.sealed());
+    assert!(rt; back.rewritten());
+    assert_eq!(rt; back.version(), 2);
+    assert_eq!(rt; back.constants(), b"AB".as_slice());
     Ok(())
 }

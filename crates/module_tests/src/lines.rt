@@ -4,7 +4,7 @@ ghost use Rattle.std.specs.List.{AllByRecursion};
 ghost use Rattle.unit_code.specs.Proper.{IsOfKind};
 
 use Unit::{
-    Branch, Jump, KernelCall, LocalCall, Plain, Pop, Push, Reserve, Return, Skip, SlotCall,
+    Branch, Jump, KernelCall, Load, LocalCall, Plain, Pop, Push, Reserve, Return, Skip, SlotCall,
     SlotIndirect, SpGroup, Store,
 };
 use avr_isa::Instr;
@@ -98,7 +98,7 @@ fn operands_of_plain_instructions(rt: HostRuntime) {
 }
 
 #[test]
-#[tactic(auto, unfolding(unit_code::specs::Kinds::standing_of, avr_isa::specs::Operands::IsEncodable))]
+#[tactic(auto, unfolding(unit_code::specs::Loads::is_load, unit_code::specs::Kinds::standing_of, avr_isa::specs::Operands::IsEncodable))]
 fn loads_and_stores(rt: HostRuntime) {
     let rows = [
         (9, 7, Plain(Instr::LdX(4)), "9 0007 ld r4,x\n"),
@@ -111,6 +111,9 @@ fn loads_and_stores(rt: HostRuntime) {
         (9, 7, Plain(Instr::LddY(4, 0)), "9 0007 ldd r4,y+0\n"),
         (9, 7, Plain(Instr::LddZ(4, 63)), "9 0007 ldd r4,z+63\n"),
         (9, 7, Plain(Instr::Lds(4, 0x0100)), "9 0007 lds r4,0x0100\n"),
+        (9, 7, Load(Instr::LdX(4)), "9 0007 ld r4,x\n"),
+        (9, 7, Load(Instr::LddZ(4, 63)), "9 0007 ldd r4,z+63\n"),
+        (9, 7, Load(Instr::Lds(4, 0x0100)), "9 0007 lds r4,0x0100\n"),
         (9, 7, Store(Instr::StX(5)), "9 0007 st x,r5\n"),
         (9, 7, Store(Instr::StXInc(5)), "9 0007 st x+,r5\n"),
         (9, 7, Store(Instr::StXDec(5)), "9 0007 st -x,r5\n"),

@@ -1,7 +1,7 @@
 //! Code worked out by hand from the instruction set manual and the rules of the units.
 
 use Unit::{
-    Branch, Jump, KernelCall, LocalCall, Plain, Pop, Push, Reserve, Return, Skip, SlotCall,
+    Branch, Jump, KernelCall, Load, LocalCall, Plain, Pop, Push, Reserve, Return, Skip, SlotCall,
     SlotIndirect, SpGroup, Store,
 };
 use avr_isa::Instr;
@@ -27,11 +27,12 @@ fn read(
     alloc: Global,
     words: &[u16],
     marks: &[u16],
+    sealed: bool,
 ) -> Result<UnitList, CodeError> {
     let bytes = bytes_of(alloc, words)?;
     let code = Words::new(&bytes).expect(rt, "two bytes a word");
     assert!(rt; code.len() <= 65535);
-    units(alloc, &code, marks)
+    units(alloc, &code, marks, sealed)
 }
 
 fn branch(set: bool, target: u16) -> Unit {
@@ -60,6 +61,15 @@ fn parts(instruction: &Instr) -> Option<(u8, u8, u16)> {
         Instr::In(d, port) => (12, d, u16::from(port)),
         Instr::Ldi(d, constant) => (13, d, u16::from(constant)),
         Instr::Sbrs(r, bit) => (14, r, u16::from(bit)),
+        Instr::LdX(d) => (15, d, 0),
+        Instr::LdXInc(d) => (16, d, 0),
+        Instr::LdXDec(d) => (17, d, 0),
+        Instr::LddY(d, q) => (18, d, u16::from(q)),
+        Instr::LdYInc(d) => (19, d, 0),
+        Instr::LdYDec(d) => (20, d, 0),
+        Instr::LddZ(d, q) => (21, d, u16::from(q)),
+        Instr::LdZInc(d) => (22, d, 0),
+        Instr::LdZDec(d) => (23, d, 0),
         _ => return None,
     })
 }
@@ -75,6 +85,7 @@ fn is_same_unit(found: &Unit, wanted: &Unit) -> bool {
     match (found, wanted) {
         (Plain(a), Plain(b)) => is_same_instruction(a, b),
         (Store(a), Store(b)) => is_same_instruction(a, b),
+        (Load(a), Load(b)) => is_same_instruction(a, b),
         (Skip(a), Skip(b)) => is_same_instruction(a, b),
         (Push(a), Push(b)) => a == b,
         (Pop(a), Pop(b)) => a == b,
@@ -104,14 +115,18 @@ fn check(
     expected: &[Unit],
     places: &[u16],
 ) -> Result<(), Fail> {
-    let list = read(rt, alloc, words, &[0])?;
+    let list = read(rt, alloc, words, &[0], false)?;
+    check_list(rt, words, &list, expected, places);
+    Ok(())
+}
+
+fn check_list(rt: &impl Abort, words: &[u16], list: &UnitList, expected: &[Unit], places: &[u16]) {
     assert_eq!(rt; list.units.len(), expected.len(), "the units of {words:?}");
     for (unit, wanted) in list.units.iter().zip(expected) {
         assert!(rt; is_same_unit(unit, wanted), "the units of {words:?}");
     }
     assert_eq!(rt; list.places.as_slice(), places, "of {words:?}");
     assert_eq!(rt; list.marks.as_slice(), [0].as_slice());
-    Ok(())
 }
 
 fn check_rows(
@@ -339,16 +354,50 @@ fn requests_of_memory(rt: HostRuntime) -> Result<(), Fail> {
 }
 
 #[test]
+fn loads_of_a_sealed_image(rt: HostRuntime) -> Result<(), Fail> {
+    let words = [
+        0x910C, 0x910D, 0x910E, 0x8109, 0x9109, 0x910A, 0x8105, 0x9101, 0x9102, 0x9180, 0x0300,
+        0x900F, 0xB7CD, 0x9508,
+    ];
+    let loads = [
+        Instr::LdX(16),
+        Instr::LdXInc(16),
+        Instr::LdXDec(16),
+        Instr::LddY(16, 1),
+        Instr::LdYInc(16),
+        Instr::LdYDec(16),
+        Instr::LddZ(16, 5),
+        Instr::LdZInc(16),
+        Instr::LdZDec(16),
+        Instr::Lds(24, 0x0300),
+    ];
+    let rest = [Pop(0), Plain(Instr::In(28, 61)), Return];
+    let places = [0, 1, 2, 3, 4, 5, 6, 7, 8, 9, 11, 12, 13];
+    for sealed in [true, false] {
+        let mut expected = Vec::new(rt.alloc());
+        for load in loads {
+            expected.push(if sealed { Load(load) } else { Plain(load) })?;
+        }
+        for unit in rest {
+            expected.push(unit)?;
+        }
+        let list = read(&rt, rt.alloc(), &words, &[0], sealed)?;
+        check_list(&rt, &words, &list, &expected, &places);
+    }
+    Ok(())
+}
+
+#[test]
 fn marks_have_unit_numbers(rt: HostRuntime) -> Result<(), Fail> {
     let words = [0x9120, 0x0100, 0x3020, 0xF009, 0x9508, 0xE088, 0x9508];
-    let list = read(&rt, rt.alloc(), &words, &[5, 0, 4, 0])?;
+    let list = read(&rt, rt.alloc(), &words, &[5, 0, 4, 0], false)?;
     assert_eq!(rt; list.marks.as_slice(), [4, 0, 3, 0].as_slice());
     Ok(())
 }
 
 fn check_refused(rt: &impl Abort, alloc: Global, rows: &[(&[u16], &[u16], CodeError)]) {
     for (words, marks, expected) in rows {
-        let refusal = read(rt, alloc, words, marks).err();
+        let refusal = read(rt, alloc, words, marks, false).err();
         assert_eq!(rt; refusal, Some(*expected), "of {words:?}");
     }
 }
@@ -412,17 +461,20 @@ fn refused_targets_ends_and_entries(rt: HostRuntime) {
 #[test]
 fn long_code(rt: HostRuntime) -> Result<(), Fail> {
     let alloc = rt.alloc();
-    // a return takes two words, a NOP one and a PUSH three
+    // a return takes two words, a NOP one, a PUSH three, and a load three where it is checked, else one
     let rows = [
-        (0x0000, 2046, None),
-        (0x0000, 2047, Some(CodeError::TooLong(2049))),
-        (0x920F, 683, Some(CodeError::TooLong(2051))),
-        (0x920F, 30000, Some(CodeError::TooLong(65535))),
+        (0x0000, 2046, false, None),
+        (0x0000, 2047, false, Some(CodeError::TooLong(2049))),
+        (0x920F, 683, false, Some(CodeError::TooLong(2051))),
+        (0x920F, 30000, false, Some(CodeError::TooLong(65535))),
+        (0x910C, 2046, false, None),
+        (0x910C, 682, true, None),
+        (0x910C, 683, true, Some(CodeError::TooLong(2051))),
     ];
-    for (word, count, expected) in rows {
+    for (word, count, sealed, expected) in rows {
         let mut words = vec![in alloc; word; count]?;
         words.push(0x9508u16)?;
-        let refusal = read(&rt, alloc, &words, &[]).err();
+        let refusal = read(&rt, alloc, &words, &[], sealed).err();
         assert_eq!(rt; refusal, expected, "{count} of {word:#06x}");
     }
     Ok(())
@@ -433,6 +485,8 @@ fn lengths_by_the_templates(rt: HostRuntime) {
     let rows = [
         (Plain(Instr::Nop), 1, 1),
         (Plain(Instr::Lds(18, 0x0100)), 2, 2),
+        (Load(Instr::LdX(4)), 3, 3),
+        (Load(Instr::Lds(18, 0x0100)), 4, 4),
         (Store(Instr::StX(16)), 3, 3),
         (Store(Instr::Sts(16, 0x0100)), 4, 4),
         (Push(0), 3, 3),

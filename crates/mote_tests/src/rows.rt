@@ -641,6 +641,6 @@ fn size_comes_before_the_next_file(rt: HostRuntime) -> Result<(), Fail> {
         answer(alloc, "run s x", &mut shelf, &mut out)?,
         Status::Refused
     );
-    assert_eq!(rt; out.bytes(), b"refused size 0\n");
+    assert_eq!(rt; out.bytes(), b"refused size 0\n".as_slice());
     Ok(())
 }

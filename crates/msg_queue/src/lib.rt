@@ -7,8 +7,10 @@
 //! as the block of its payload. Only `new` takes memory.
 #![tactic(auto)]
 
+mod laws;
 mod queues;
 mod ring;
 
+pub use laws::the_rest_stays_in_order;
 pub use mote_base::Msg;
 pub use queues::Queues;

@@ -4,6 +4,8 @@
 #[cfg(test)]
 mod alu;
 #[cfg(test)]
+mod clients;
+#[cfg(test)]
 mod isa;
 #[cfg(test)]
 mod machine;

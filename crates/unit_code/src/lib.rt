@@ -13,6 +13,7 @@ mod bank;
 mod error;
 mod items;
 mod kinds;
+mod laws;
 mod list;
 mod reading;
 mod refusals;
@@ -21,6 +22,9 @@ mod unit;
 
 pub use bank::BankCode;
 pub use error::CodeError;
+pub use kinds::{Aim, Piece, Standing, standing_of};
+pub use laws::one_reading;
 pub use list::UnitList;
 pub use reading::units;
-pub use unit::{Shape, Unit, spelled_len};
+pub use targets::{number_of, number_reached, reached};
+pub use unit::{Shape, Unit, is_load, spelled_len};
