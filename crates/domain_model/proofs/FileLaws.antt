@@ -1,7 +1,9 @@
 -- Each file is what `prepared` makes of it.
-use Rattle.std.proofs.Common.{◌≡◌, ℕ, zero, suc, ◌<◌, ◌≤◌, inl, inr, List, [], ◌∷◌, length, drop, get_or, slice_index, cond, Bool, true, false, refl, arith, Option, Some, None, Result, Ok, Err}
+use Rattle.std.proofs.Common.{◌≡◌, ℕ, zero, suc, ◌<◌, ◌≤◌, inl, inr, List, [], ◌∷◌, length, drop, get_or, slice_index, cond, Bool, ◌==◌, ◌||◌, true, false, refl, sym, ap, ◌∙◌, arith, Option, Some, None, Result, Ok, Err}
 use Rattle.std.specs.Prelude.{option_map}
 use Rattle.std.specs.List.{AllByRecursion, Contains, cons_option, filter_map}
+use Rattle.std.proofs.lemmas.Bool.{true≢false}
+use Rattle.std.proofs.lemmas.Bool.Decides.{nat_tests}
 use Rattle.unit_code.specs.declared.error.CodeError.{CodeError}
 use Rattle.unit_code.specs.declared.error.CodeError.TheVariants.{Entry}
 use Rattle.unit_code.specs.Refusals.{stray_mark, least_stray}
@@ -12,7 +14,7 @@ use Rattle.unit_code.proofs.Numbers.{number_of-some}
 use Rattle.unit_code.proofs.ProperUnits.{no_refusal}
 use Rattle.unit_code.proofs.Strays.{least_stray-none}
 use Rattle.module_image.specs.declared.error.ImageError.{ImageError}
-use Rattle.module_image.specs.Contents.{Contents}
+use Rattle.module_image.specs.Contents.{Contents, IsVersion, first_version, second_version}
 use Rattle.module_image.specs.Reading.{image_of}
 use Rattle.module_image.specs.Spelling.{Image}
 use Rattle.module_image.proofs.Images.{image_takes, image_read}
@@ -46,48 +48,60 @@ parted : (places words numbers : List ℕ) (word : ℕ) → BeginAt places (word
 parted places words [] word h = absurd h
 parted places words (n ∷ ns) word h = h
 
-marks_begin : (words marks : List ℕ) → refusal words marks ≡ None → BeginAt (places_of words) marks (filter_map (number_of (places_of words)) marks)
-marks_begin words marks h = all_begin (places_of words) marks (no_stray (places_of words) marks (no_refusal words marks h).2)
+marks_begin : (words marks : List ℕ) (sealed : Bool) → refusal words marks sealed ≡ None → BeginAt (places_of words) marks (filter_map (number_of (places_of words)) marks)
+marks_begin words marks sealed h = all_begin (places_of words) marks (no_stray (places_of words) marks (no_refusal words marks sealed h).2)
 
 -- The file, part by part.
+
+other_version : (version : ℕ) → version ≡ second_version → (version == second_version) ≡ false → ⊥
+other_version version second is = true≢false (sym (ap (λ n. n == second_version) second) ∙ is)
 
 module _ (file : List ℕ) (c : Contents) (image : Image file c) where
   short : length c.code ≤ 65535
   short = omega (arith, image.rules.code_count)
 
-  units_come : (b : Bool) → c.rewritten ≡ false → refusal c.code (marks_of c) ≡ None → are_built (units_of c.code) ≡ b → ComesTo (cond b (Some (Ok (module_of c (listed c.code (marks_of c))))) None) file
+  units_come : (b : Bool) → c.rewritten ≡ false → c.version ≡ first_version → refusal c.code (marks_of c) c.sealed ≡ None → are_built (units_of c.code c.sealed) ≡ b → ComesTo (cond b (Some (Ok (module_of c (listed c.code (marks_of c) c.sealed)))) None) file
   unfolding listed
-  units_come true original none is = record {
+  units_come true original first none is = record {
     contents = c;
     image = image;
     holds = record {
       original = original;
-      accepted = no_refusal_none_holds c.code (marks_of c) short none;
+      first = first;
+      accepted = no_refusal_none_holds c.code (marks_of c) c.sealed short none;
       face = refl;
       state_size = refl;
       units = refl;
-      entered = parted (places_of c.code) _ _ c.handler (marks_begin c.code (marks_of c) none);
+      entered = parted (places_of c.code) _ _ c.handler (marks_begin c.code (marks_of c) c.sealed none);
       built = is;
     };
   }
-  units_come false original none is = record {
+  units_come false original first none is = record {
     contents = c;
     image = image;
-    holds = inr (no_refusal_none_holds c.code (marks_of c) short none, is);
+    holds = inr (inr (no_refusal_none_holds c.code (marks_of c) c.sealed short none, is));
   }
 
-  code_comes : (o : Option CodeError) → c.rewritten ≡ false → refusal c.code (marks_of c) ≡ o → ComesTo (prepared_code c o) file
+  code_comes : (o : Option CodeError) → c.rewritten ≡ false → c.version ≡ first_version → refusal c.code (marks_of c) c.sealed ≡ o → ComesTo (prepared_code c o) file
   unfolding listed
-  code_comes (Some e) original is = record {
+  code_comes (Some e) original first is = record {
     contents = c;
     image = image;
-    holds = record { original = original; first = refusal_is_first c.code (marks_of c) e short is };
+    holds = record { original = original; version = first; first = refusal_is_first c.code (marks_of c) c.sealed e short is };
   }
-  code_comes None original is = units_come (are_built (units_of c.code)) original is refl
+  code_comes None original first is = units_come (are_built (units_of c.code c.sealed)) original first is refl
 
-  contents_come : (b : Bool) → c.rewritten ≡ b → ComesTo (prepared_contents b c) file
+  first_where : IsVersion c.version → (c.version == second_version) ≡ false → c.version ≡ first_version
+  first_where (inl first) is = first
+  first_where (inr second) is = absurd (other_version c.version second is)
+
+  version_comes : (b : Bool) → c.rewritten ≡ false → (c.version == second_version) ≡ b → ComesTo (prepared_contents b c) file
+  version_comes true original is = record { contents = c; image = image; holds = inr (inl (grind (arith, nat_tests))) }
+  version_comes false original is = code_comes (refusal c.code (marks_of c) c.sealed) original (first_where image.rules.version is) refl
+
+  contents_come : (b : Bool) → c.rewritten ≡ b → ComesTo (prepared_contents (b || c.version == second_version) c) file
   contents_come true is = record { contents = c; image = image; holds = inl is }
-  contents_come false is = code_comes (refusal c.code (marks_of c)) is refl
+  contents_come false is = version_comes (c.version == second_version) is refl
 
 file_comes : (file : List ℕ) (r : Result Contents ImageError) → ((i : ℕ) → get_or file i 0 < 256) → image_of file ≡ r → ComesTo (prepared_image r) file
 file_comes file (Err e) bytes is = λ c image. let read = image_read file (image_of file) c refl image in cc

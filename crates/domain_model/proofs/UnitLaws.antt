@@ -1,6 +1,6 @@
 -- Lists of units that may be loaded: each unit that is built has its operands in range, there are no more units than
 -- words in a bank, and behind a unit that control goes on from stands another.
-use Rattle.std.proofs.Common.{◌≡◌, ℕ, zero, suc, ◌+◌, ◌<◌, ◌≤◌, not, List, [], ◌∷◌, length, true, false, sym, ap, ◌∙◌, arith, Option, Some, None, slice_get}
+use Rattle.std.proofs.Common.{◌≡◌, ℕ, zero, suc, ◌+◌, ◌<◌, ◌≤◌, not, List, [], ◌∷◌, length, Bool, true, false, sym, ap, ◌∙◌, arith, Option, Some, None, slice_get}
 use Rattle.std.specs.List.{AllByRecursion}
 use Rattle.std.proofs.lemmas.Bool.{and_parts, true≢false}
 use Rattle.std.proofs.lemmas.Option.{none-some, same_Some}
@@ -11,7 +11,7 @@ use Rattle.avr_isa.specs.Place.{second_word}
 use Rattle.avr_isa.specs.Table.{word_count}
 use Rattle.mote_layout.specs.Memory.{bank_words}
 use Rattle.unit_code.specs.declared.unit.Unit.{Unit}
-use Rattle.unit_code.specs.declared.unit.Unit.TheVariants.{Plain, Store, Push, Pop, SpGroup, Reserve, Skip, Branch, Jump, LocalCall, KernelCall, SlotCall, SlotIndirect, Return}
+use Rattle.unit_code.specs.declared.unit.Unit.TheVariants.{Plain, Store, Load, Push, Pop, SpGroup, Reserve, Skip, Branch, Jump, LocalCall, KernelCall, SlotCall, SlotIndirect, Return}
 use Rattle.unit_code.specs.declared.unit.Shape.TheVariants.{Long}
 use Rattle.unit_code.specs.Ends.{leaves, goes_on, long_length}
 use Rattle.unit_code.specs.Lengths.{spelled_length}
@@ -37,8 +37,8 @@ units_built (u ∷ us) h e =
     let both = and_parts (is_built u) (are_built us) e in
     (unit_built u h.0 both.0, units_built us h.1 both.1)
 
-pub proper_built : (us : List Unit) → IsProper us → are_built us ≡ true → AreProper us
-proper_built us h e = record { proper = h; built = units_built us h.kinds e }
+pub proper_built : (us : List Unit) (sealed : Bool) → IsProper us sealed → are_built us ≡ true → AreProper us
+proper_built us sealed h e = record { sealed = sealed; proper = h; built = units_built us h.kinds e }
 
 -- Each unit has a word at least.
 
@@ -49,6 +49,7 @@ some_word (Some k) = omega arith
 some_length : (u : Unit) → 1 ≤ spelled_length u Long
 some_length (Plain i) = some_word (second_word i)
 some_length (Store i) = omega arith
+some_length (Load i) = omega arith
 some_length (Push r) = omega arith
 some_length (Pop d) = omega arith
 some_length (SpGroup true) = omega arith
@@ -67,7 +68,7 @@ as_many : (us : List Unit) → length us ≤ long_length us
 as_many [] = omega arith
 as_many (u ∷ us) = omega (arith, as_many us, some_length u, sum_by-cons (λ v. spelled_length v Long) u us)
 
-pub proper_fits : (us : List Unit) → IsProper us → length us ≤ bank_words
+pub proper_fits : (us : List Unit) {sealed : Bool} → IsProper us sealed → length us ≤ bank_words
 proper_fits us h = omega (arith, as_many us, h.fits)
 
 -- Control runs past no end.

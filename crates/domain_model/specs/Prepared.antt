@@ -1,5 +1,5 @@
 -- What the file of an image holds.
-use Rattle.std.specs.Prelude.{ℕ, List, ◌∷◌, drop, map, slice_index, Bool, true, false, Option, Some, None, unwrap_or, Result, Ok, Err, if◌then◌else◌}
+use Rattle.std.specs.Prelude.{ℕ, ◌==◌, ◌||◌, List, ◌∷◌, drop, map, slice_index, Bool, true, false, Option, Some, None, unwrap_or, Result, Ok, Err, if◌then◌else◌}
 use Rattle.unit_code.specs.declared.unit.Unit.{Unit}
 use Rattle.unit_code.specs.declared.error.CodeError.{CodeError}
 use Rattle.unit_code.specs.Errors.{error_number, error_word, error_kind}
@@ -7,7 +7,7 @@ use Rattle.unit_code.specs.Listing.{Listing}
 use Rattle.unit_code.specs.Units.{refusal, listed}
 use Rattle.module_image.specs.declared.face.Face.{Face}
 use Rattle.module_image.specs.declared.error.ImageError.{ImageError}
-use Rattle.module_image.specs.Contents.{Contents}
+use Rattle.module_image.specs.Contents.{Contents, second_version}
 use Rattle.module_image.specs.Reading.{image_of}
 use Rattle.module_image.specs.Refusal.{number_of, value_of}
 use Rattle.domain_model.specs.declared.refusal.Refusal.{Refusal}
@@ -65,16 +65,19 @@ prepared_units c l = if are_built l.units then Some (Ok (module_of c l)) else No
 
 abbrev pub prepared_code : Contents → Option CodeError → Option Prep
 prepared_code c (Some e) = Some (Err (Code e))
-prepared_code c None = prepared_units c (listed c.code (marks_of c))
+prepared_code c None = prepared_units c (listed c.code (marks_of c) c.sealed)
 
--- A rewriter's image is not built.
+-- A rewriter's image and one of the second version are not built.
+abbrev pub is_unbuilt : Contents → Bool
+is_unbuilt c = c.rewritten || c.version == second_version
+
 abbrev pub prepared_contents : Bool → Contents → Option Prep
 prepared_contents true c = None
-prepared_contents false c = prepared_code c (refusal c.code (marks_of c))
+prepared_contents false c = prepared_code c (refusal c.code (marks_of c) c.sealed)
 
 abbrev pub prepared_image : Result Contents ImageError → Option Prep
 prepared_image (Err e) = Some (Err (Image e))
-prepared_image (Ok c) = prepared_contents c.rewritten c
+prepared_image (Ok c) = prepared_contents (is_unbuilt c) c
 
 -- What the file comes to: a module, or the first refusal of its fields or of its code; none where it is not built.
 abbrev pub prepared : List ℕ → Option Prep

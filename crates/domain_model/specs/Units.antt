@@ -43,7 +43,8 @@ IsBuilt (KernelCall n) = IsSome (service_of n)
 IsBuilt Return = ⊤
 IsBuilt _ = ⊥
 
--- A list of units that may be loaded and can run.
+-- A list of units that may be loaded and can run. It is proper with or without a seal.
 pub record AreProper (us : List Unit) : Type 0 where
-  pub proper : IsProper us
+  pub sealed : Bool
+  pub proper : IsProper us sealed
   pub built : AllByRecursion IsBuilt us

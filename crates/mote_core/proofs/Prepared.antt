@@ -1,5 +1,5 @@
 -- A module whose units are proper and built can be loaded.
-use Rattle.std.proofs.Common.{◌≡◌, ℕ, ◌+◌, ◌<◌, List, [], ◌∷◌, length, drop, slice_index, true, arith}
+use Rattle.std.proofs.Common.{◌≡◌, ℕ, ◌+◌, ◌<◌, List, [], ◌∷◌, length, drop, slice_index, Bool, true, arith}
 use Rattle.std.specs.List.{AllByRecursion}
 use Rattle.std.proofs.Math.ListN.{length-map}
 use Rattle.unit_code.specs.Listing.{Listing, FitsTogether}
@@ -26,12 +26,12 @@ one_fewer (m ∷ ms) n e = omega (arith, e)
 pub as_many_marks : (c : Contents) (l : Listing) → FitsTogether l (marks_of c) → length l.marks ≡ length c.face.provided.items + 1
 as_many_marks c l together = omega (arith, together.marked, length-map c.face.provided.items (λ p. p.word))
 
-pub good_prepared : (c : Contents) (l : Listing) → FaceRules c.face → IsProper l.units → FitsTogether l (marks_of c) → are_built l.units ≡ true → GoodImage (module_of c l)
-good_prepared c l face proper together built =
+pub good_prepared : (c : Contents) (l : Listing) → FaceRules c.face → (sealed : Bool) → IsProper l.units sealed → FitsTogether l (marks_of c) → are_built l.units ≡ true → GoodImage (module_of c l)
+good_prepared c l face sealed proper together built =
     let count = as_many_marks c l together in
     record {
       face = face;
-      units = proper_built l.units proper built;
+      units = proper_built l.units sealed proper built;
       entered = record {
         handler = first_is_below (length l.units) l.marks (omega (arith, count)) together.entered;
         entries = others_are_below (length l.units) l.marks together.entered;

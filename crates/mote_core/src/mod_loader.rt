@@ -4,7 +4,7 @@ ghost use Rattle.mote_layout.specs.Limits.{provided_limit};
 ghost use Rattle.unit_code.specs.Listing.{FitsTogether};
 ghost use Rattle.unit_code.specs.Proper.{IsProper};
 ghost use Rattle.module_image.specs.Contents.{FaceRules};
-ghost use Rattle.domain_model.specs.Prepared.{marks_of, module_of, prepared, prepared_contents, prepared_units};
+ghost use Rattle.domain_model.specs.Prepared.{is_unbuilt, marks_of, module_of, prepared, prepared_contents, prepared_units};
 ghost use Rattle.domain_model.specs.Units.{are_built, is_built};
 ghost use Rattle.domain_model.specs.Good.{IsGoodImage};
 
@@ -12,7 +12,7 @@ use crate::loaded::Loaded;
 use arrayvec::ArrayVec;
 use avr_isa::Instr;
 use domain_model::Refusal;
-use module_image::{Face, ImageView, parse};
+use module_image::{Face, ImageView, SECOND_VERSION, parse};
 use mote_base::NoMemory;
 use mote_layout::PROVIDED;
 use std::alloc::Global;
@@ -131,6 +131,13 @@ impl Ready {
     }
 }
 
+// Whether a rewriter made the image, or it is of the second version.
+fn is_unbuilt(image: &ImageView<'_>) -> bool
+    ensures { result ≡ is_unbuilt image.now }
+{
+    image.rewritten() || image.version() == SECOND_VERSION
+}
+
 // Prepares an image whose fields were read.
 fn prepared_contents(
     alloc: Global,
@@ -138,14 +145,14 @@ fn prepared_contents(
 ) -> Result<Option<Result<Loadable, Refusal>>, NoMemory>
     requires face { FaceRules image.now.face }
     requires code { length image.now.code ≤ 65535 }
-    ensures prepared { IfOk result (λ p. p ≡ prepared_contents image.now.rewritten image.now) }
+    ensures prepared { IfOk result (λ p. p ≡ prepared_contents (is_unbuilt image.now) image.now) }
     ensures good { IfOk result (λ p. IsGoodImage p) }
 {
-    if image.rewritten() {
+    if is_unbuilt(image) {
         return Ok(None);
     }
     let marks = image.marks();
-    match units(alloc, &image.code(), marks.as_slice()) {
+    match units(alloc, &image.code(), marks.as_slice(), image.sealed()) {
         Ok(list) => Ok(prepared_units(image, list)),
         Err(CodeError::NoMemory) => Err(NoMemory),
         Err(error) => Ok(Some(Err(Refusal::Code(error)))),
@@ -155,7 +162,7 @@ fn prepared_contents(
 // Prepares an image whose units were read.
 fn prepared_units(image: &ImageView<'_>, list: UnitList) -> Option<Result<Loadable, Refusal>>
     requires face { FaceRules image.now.face }
-    requires proper { IsProper list.units }
+    requires proper { IsProper list.units image.now.sealed }
     requires together { FitsTogether list (marks_of image.now) }
     ensures prepared { result ≡ prepared_units image.now list }
     ensures good { IsGoodImage result }
