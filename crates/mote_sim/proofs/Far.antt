@@ -8,7 +8,7 @@ use Rattle.domain_model.specs.declared.event.Turned.TheVariants.{More}
 use Rattle.domain_model.specs.declared.line.TraceLine.{TraceLine}
 use Rattle.domain_model.specs.Laws.{LawfulTurn, LawfulRunFrom}
 use Rattle.domain_model.specs.State.{State}
-use Rattle.domain_model.specs.Text.{text, texts}
+use Rattle.trace_text.specs.Text.{text, texts}
 use Rattle.domain_model.specs.Turn.{RunFrom, over, more}
 use Rattle.domain_model.proofs.RunLaws.{runs_end}
 use Rattle.domain_model.proofs.LawfulLaws.{runs_are_lawful}

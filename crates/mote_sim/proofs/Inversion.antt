@@ -12,16 +12,18 @@ use Rattle.unit_code.specs.Units.{refusal, listed}
 use Rattle.module_image.specs.declared.error.ImageError.{ImageError}
 use Rattle.module_image.specs.Contents.{Contents}
 use Rattle.module_image.specs.Reading.{image_of}
-use Rattle.domain_model.specs.declared.event.LoaderEvent.{LoaderEvent}
+use Rattle.domain_model.specs.declared.script.Event.{Event}
 use Rattle.domain_model.specs.declared.request.Kind.{Kind}
 use Rattle.domain_model.specs.declared.request.Kind.TheVariants.{Run, Listing}
 use Rattle.domain_model.specs.Command.{Command, limit_of}
 use Rattle.domain_model.specs.Prepared.{marks_of}
-use Rattle.domain_model.specs.Script.{events_of}
+use Rattle.domain_model.specs.Loader.{are_for_loader}
+use Rattle.event_script.specs.declared.error.ScriptError.{ScriptError}
+use Rattle.event_script.specs.Refusals.{refusal_of, events_of}
 use Rattle.domain_model.specs.State.{Input}
 use Rattle.mote_sim.specs.Clauses.{AreImages, WritesRun, WritesListing, Refuses, HasStatus}
 use Rattle.mote_sim.specs.Listing.{listing_text}
-use Rattle.mote_sim.specs.Outcome.{Outcome, NoCommand, Unheld, TooLong, Unbuilt, Runs, BadImage, BadCode, Lists, outcome, outcome_of, outcome_by, outcome_with, outcome_of_code, outcome_of_contents, outcome_of_image, Answers, MayFind, AnswersOver, usage_line}
+use Rattle.mote_sim.specs.Outcome.{Outcome, NoCommand, Unheld, TooLong, BadScript, Unbuilt, Runs, BadImage, BadCode, Lists, outcome, outcome_of, outcome_by, outcome_with, outcome_of_script, outcome_of_code, outcome_of_contents, outcome_of_image, Answers, MayFind, AnswersOver, usage_line}
 use Rattle.mote_sim.specs.Reading.{Gathered, Whole, Longer, Missing, gathered_from, gathered_file, with_first}
 use Rattle.mote_sim.specs.Trace.{IsTraceOf, run_input, are_built, input_with, input_of}
 use Rattle.mote_sim.proofs.Counts.{HasItsFiles, one_at_least, most_images, one_alone}
@@ -83,21 +85,27 @@ images_whole number fs (name ∷ names) files low e =
     subst (AreImages fs (name ∷ names)) (sym one.files_are)
     (one.held, subst (λ limit. length one.bytes ≤ limit) (later_limit number low) one.fits, others)
 
--- An input that is run is built.
-record Built (images : List (List ℕ)) (events : Option (List LoaderEvent)) (built : Bool) (text : List ℕ) : Type 0 where
-  pub list : List LoaderEvent
-  pub events_are : events ≡ Some list
-  pub all : built ≡ true
-  pub trace : IsTraceOf (run_input images list) text
+-- A run that is answered by Done has a script that is not refused, of loads and unloads alone, and images that are built.
+record Built (images : List (List ℕ)) (events : List Event) (refused : Option ScriptError) (text : List ℕ) : Type 0 where
+  pub none : refused ≡ None
+  pub loads : are_for_loader events ≡ true
+  pub all : are_built images ≡ true
+  pub trace : IsTraceOf (run_input images events) text
 
-built : (images : List (List ℕ)) (events : Option (List LoaderEvent)) (all : Bool) (text : List ℕ) → Answers (outcome_with (input_with images events all)) Done text → Built images events all text
-built images None all text a = let e : Done ≡ Refused = a.0 in absurd (cc)
-built images (Some list) false text a = let e : Done ≡ Refused = a.0 in absurd (cc)
-built images (Some list) true text a = record { list = list; events_are = refl; all = refl; trace = a.1 }
+runs : (images : List (List ℕ)) (events : List Event) (loads all : Bool) (text : List ℕ) → Answers (outcome_with (input_with images events (loads && all))) Done text → (loads ≡ true) × (all ≡ true) × IsTraceOf (run_input images events) text
+runs images events true true text a = (refl, refl, a.1)
+runs images events true false text a = let e : Done ≡ Refused = a.0 in absurd (cc)
+runs images events false all text a = let e : Done ≡ Refused = a.0 in absurd (cc)
 
-built_from : (files images : List (List ℕ)) (script text : List ℕ) → files ≡ script ∷ images → Answers (outcome_by Run files) Done text → Built images (events_of script (length images)) (are_built images) text
+built : (images : List (List ℕ)) (events : List Event) (refused : Option ScriptError) (text : List ℕ) → Answers (outcome_of_script refused events images) Done text → Built images events refused text
+built images events (Some error) text a = let e : Done ≡ Refused = a.0 in absurd (cc)
+built images events None text a =
+    let parts = runs images events (are_for_loader events) (are_built images) text a in
+    record { none = refl; loads = parts.0; all = parts.1; trace = parts.2 }
+
+built_from : (files images : List (List ℕ)) (script text : List ℕ) → files ≡ script ∷ images → Answers (outcome_by Run files) Done text → Built images (events_of script) (refusal_of (length images) script) text
 built_from files images script text is a =
-    built images (events_of script (length images)) (are_built images) text (subst (λ xs. Answers (outcome_by Run xs) Done text) is a)
+    built images (events_of script) (refusal_of (length images) script) text (subst (λ xs. Answers (outcome_by Run xs) Done text) is a)
 
 pub writes_run : (fs : List Named) (names : List (List ℕ)) (text before : List ℕ) (new : Option (List ℕ)) → HasItsFiles (record { kind = Run; files = names }) → Answers (outcome_of Run (gathered_from Run 0 fs names)) Done text → new ≡ Some (before ++ text) → WritesRun names fs before new
 writes_run fs [] text before new few a written = absurd a
@@ -116,8 +124,10 @@ writes_run fs (s ∷ names) text before new few a written =
       script_fits = one.fits;
       images = one.rest;
       images_are = images_whole 1 fs names one.rest (omega arith) one.others_are;
-      events = b.list;
-      events_are = b.events_are;
+      accepted = b.none;
+      events = events_of one.bytes;
+      events_are = refl;
+      loads = b.loads;
       built = each_built one.rest b.all;
       lines = b.trace.lines;
       run = b.trace.run;
@@ -127,7 +137,7 @@ writes_run fs (s ∷ names) text before new few a written =
 -- Code whose units are listed is not refused.
 record Accepted (c : Contents) (refused : Option CodeError) (text : List ℕ) : Type 0 where
   pub none : refused ≡ None
-  pub is : text ≡ listing_text (listed c.code (marks_of c))
+  pub is : text ≡ listing_text (listed c.code (marks_of c) c.sealed)
 
 accepted : (c : Contents) (refused : Option CodeError) (text : List ℕ) → Answers (outcome_of_code c refused) Done text → Accepted c refused text
 accepted c (Some error) text a = let e : Done ≡ Refused = a.0 in absurd (cc)
@@ -135,11 +145,11 @@ accepted c None text a = record { none = refl; is = a.1 }
 
 record Original (rewritten : Bool) (c : Contents) (text : List ℕ) : Type 0 where
   pub is : rewritten ≡ false
-  pub code : Accepted c (refusal c.code (marks_of c)) text
+  pub code : Accepted c (refusal c.code (marks_of c) c.sealed) text
 
 original : (rewritten : Bool) (c : Contents) (text : List ℕ) → Answers (outcome_of_contents rewritten c) Done text → Original rewritten c text
 original true c text a = let e : Done ≡ Refused = a.0 in absurd (cc)
-original false c text a = record { is = refl; code = accepted c (refusal c.code (marks_of c)) text a }
+original false c text a = record { is = refl; code = accepted c (refusal c.code (marks_of c) c.sealed) text a }
 
 record Image (read : Result Contents ImageError) (text : List ℕ) : Type 0 where
   pub contents : Contents
@@ -183,6 +193,7 @@ usage_outcome : (found : Outcome) (text : List ℕ) → Answers found Usage text
 usage_outcome NoCommand text a = (refl, a.1)
 usage_outcome Unheld text a = absurd a
 usage_outcome (TooLong n) text a = let e : Usage ≡ Refused = a.0 in absurd (cc)
+usage_outcome (BadScript error) text a = let e : Usage ≡ Refused = a.0 in absurd (cc)
 usage_outcome Unbuilt text a = let e : Usage ≡ Refused = a.0 in absurd (cc)
 usage_outcome (Runs i) text a = let e : Usage ≡ Done = a.0 in absurd (cc)
 usage_outcome (BadImage error) text a = let e : Usage ≡ Refused = a.0 in absurd (cc)
@@ -193,13 +204,17 @@ with_is_command : (i : Option Input) → outcome_with i ≡ NoCommand → ⊥
 with_is_command None e = cc
 with_is_command (Some i) e = cc
 
+script_is_command : (refused : Option ScriptError) (events : List Event) (images : List (List ℕ)) → outcome_of_script refused events images ≡ NoCommand → ⊥
+script_is_command (Some error) events images e = cc
+script_is_command None events images e = with_is_command (input_of events images) e
+
 code_is_command : (c : Contents) (refused : Option CodeError) → outcome_of_code c refused ≡ NoCommand → ⊥
 code_is_command c (Some error) e = cc
 code_is_command c None e = cc
 
 contents_is_command : (rewritten : Bool) (c : Contents) → outcome_of_contents rewritten c ≡ NoCommand → ⊥
 contents_is_command true c e = cc
-contents_is_command false c e = code_is_command c (refusal c.code (marks_of c)) e
+contents_is_command false c e = code_is_command c (refusal c.code (marks_of c) c.sealed) e
 
 image_is_command : (read : Result Contents ImageError) → outcome_of_image read ≡ NoCommand → ⊥
 image_is_command (Err error) e = cc
@@ -207,7 +222,7 @@ image_is_command (Ok c) e = contents_is_command c.rewritten c e
 
 by_is_command : (kind : Kind) (files : List (List ℕ)) → outcome_by kind files ≡ NoCommand → ⊥
 by_is_command Run [] e = cc
-by_is_command Run (script ∷ images) e = with_is_command (input_of script images) e
+by_is_command Run (script ∷ images) e = script_is_command (refusal_of (length images) script) (events_of script) images e
 by_is_command Listing [] e = cc
 by_is_command Listing (file ∷ []) e = image_is_command (image_of file) e
 by_is_command Listing (file ∷ other ∷ files) e = cc
@@ -230,6 +245,7 @@ pub refuses : (found : Outcome) (text : List ℕ) (old new : Option (List ℕ)) 
 refuses NoCommand text old new a grows = let e : Refused ≡ Usage = a.0 in absurd (cc)
 refuses Unheld text old new a grows = absurd a
 refuses (TooLong n) text old new a grows = subst (λ t. Grows old new t) a.1 grows
+refuses (BadScript error) text old new a grows = subst (λ t. Grows old new t) a.1 grows
 refuses Unbuilt text old new a grows = subst (λ t. Grows old new t) a.1 grows
 refuses (Runs i) text old new a grows = let e : Refused ≡ Done = a.0 in absurd (cc)
 refuses (BadImage error) text old new a grows = subst (λ t. Grows old new t) a.1 grows
@@ -241,6 +257,7 @@ pub has_status : (found : Outcome) (s : Status) (text : List ℕ) → Answers fo
 has_status NoCommand s text a = a.0
 has_status Unheld s text a = a
 has_status (TooLong n) s text a = a.0
+has_status (BadScript error) s text a = a.0
 has_status Unbuilt s text a = a.0
 has_status (Runs i) s text a = a.0
 has_status (BadImage error) s text a = a.0

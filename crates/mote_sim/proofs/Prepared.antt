@@ -7,7 +7,7 @@ use Rattle.domain_model.specs.Free.{SameState}
 use Rattle.domain_model.specs.Good.{Good}
 use Rattle.domain_model.specs.Laws.{LawfulRunFrom}
 use Rattle.domain_model.specs.State.{State, Input, start}
-use Rattle.domain_model.specs.Text.{texts}
+use Rattle.trace_text.specs.Text.{texts}
 use Rattle.domain_model.specs.Turn.{is_unstated}
 use Rattle.mote_sim.specs.Ending.{Answered, CutOff}
 use Rattle.mote_sim.specs.Outcome.{Answers, outcome_with}

@@ -1,5 +1,5 @@
 -- What the clauses of the top call say.
-use Rattle.std.specs.Prelude.{◌≡◌, ℕ, ◌≤◌, false, List, [], ◌∷◌, ◌++◌, length, Option, Some, None, IsSome, Ok, ⊤}
+use Rattle.std.specs.Prelude.{◌≡◌, ℕ, ◌≤◌, true, false, List, [], ◌∷◌, ◌++◌, length, Option, Some, None, IsSome, Ok, ⊤}
 use Rattle.std.specs.List.{AllByRecursion}
 use Rattle.mote_base.specs.Files.{Named, held}
 use Rattle.mote_base.specs.Written.{Grows, IsStartOf}
@@ -9,15 +9,16 @@ use Rattle.mote_layout.specs.Limits.{images_limit}
 use Rattle.unit_code.specs.Units.{refusal, listed}
 use Rattle.module_image.specs.Contents.{Contents}
 use Rattle.module_image.specs.Reading.{image_of}
-use Rattle.domain_model.specs.declared.event.LoaderEvent.{LoaderEvent}
+use Rattle.domain_model.specs.declared.script.Event.{Event}
 use Rattle.domain_model.specs.declared.line.TraceLine.{TraceLine}
 use Rattle.domain_model.specs.declared.request.Kind.TheVariants as kinds
 use Rattle.domain_model.specs.Command.{limit_of}
 use Rattle.domain_model.specs.Prepared.{marks_of, prepared}
-use Rattle.domain_model.specs.Script.{events_of}
-use Rattle.domain_model.specs.Text.{texts}
+use Rattle.domain_model.specs.Loader.{are_for_loader}
+use Rattle.event_script.specs.Refusals.{refusal_of, events_of}
+use Rattle.trace_text.specs.Text.{texts}
 use Rattle.mote_sim.specs.Listing.{listing_text}
-use Rattle.mote_sim.specs.Outcome.{Outcome, NoCommand, Unheld, TooLong, Unbuilt, Runs, BadImage, BadCode, Lists, Answers, size_line, unbuilt_line, image_line, code_line}
+use Rattle.mote_sim.specs.Outcome.{Outcome, NoCommand, Unheld, TooLong, BadScript, Unbuilt, Runs, BadImage, BadCode, Lists, Answers, size_line, unbuilt_line, script_line, image_line, code_line}
 use Rattle.mote_sim.specs.Trace.{IsLawfulRun, run_input}
 
 -- These are the bytes of the images of these names: each image is held, and within the limit of an image.
@@ -29,7 +30,7 @@ AreImages files (name ∷ names) (image ∷ images) =
     (held files name ≡ Some image) × (length image ≤ limit_of kinds.Run 1) × AreImages files names images
 
 -- The files of `run` are a script and one image or more, up to their limit. Each was read whole and is within its limit, the script
--- has events, each image is built, and the bytes that were added are the text of a lawful run of them.
+-- is not refused and its events are loads and unloads, each image is built, and the bytes that were added are the text of a lawful run of them.
 pub record WritesRun (names : List (List ℕ)) (files : List Named) (before : List ℕ) (new : Option (List ℕ)) : Type 0 where
   pub script_name : List ℕ
   pub image_names : List (List ℕ)
@@ -41,8 +42,10 @@ pub record WritesRun (names : List (List ℕ)) (files : List Named) (before : Li
   pub script_fits : length script ≤ limit_of kinds.Run 0
   pub images : List (List ℕ)
   pub images_are : AreImages files image_names images
-  pub events : List LoaderEvent
-  pub events_are : events_of script (length images) ≡ Some events
+  pub events : List Event
+  pub accepted : refusal_of (length images) script ≡ None
+  pub events_are : events ≡ events_of script
+  pub loads : are_for_loader events ≡ true
   pub built : AllByRecursion (λ image. IsSome (prepared image)) images
   pub lines : List TraceLine
   pub run : IsLawfulRun (run_input images events) lines
@@ -59,14 +62,15 @@ pub record WritesListing (names : List (List ℕ)) (files : List Named) (before 
   pub contents : Contents
   pub contents_are : image_of image ≡ Ok contents
   pub original : contents.rewritten ≡ false
-  pub accepted : refusal contents.code (marks_of contents) ≡ None
-  pub written : new ≡ Some (before ++ listing_text (listed contents.code (marks_of contents)))
+  pub accepted : refusal contents.code (marks_of contents) contents.sealed ≡ None
+  pub written : new ≡ Some (before ++ listing_text (listed contents.code (marks_of contents) contents.sealed))
 
 -- Why the command refuses its files, and the line that says so.
 abbrev pub Refuses : Outcome → Option (List ℕ) → Option (List ℕ) → Type 0
 Refuses NoCommand old new = ⊥
 Refuses Unheld old new = ⊥
 Refuses (TooLong number) old new = Grows old new (size_line number)
+Refuses (BadScript e) old new = Grows old new (script_line e)
 Refuses Unbuilt old new = Grows old new unbuilt_line
 Refuses (Runs i) old new = ⊥
 Refuses (BadImage e) old new = Grows old new (image_line e)
@@ -79,6 +83,7 @@ abbrev pub HasStatus : Outcome → Status → Type 0
 HasStatus NoCommand s = s ≡ status.Usage
 HasStatus Unheld s = ⊥
 HasStatus (TooLong number) s = s ≡ status.Refused
+HasStatus (BadScript e) s = s ≡ status.Refused
 HasStatus Unbuilt s = s ≡ status.Refused
 HasStatus (Runs i) s = s ≡ status.Done
 HasStatus (BadImage e) s = s ≡ status.Refused

@@ -1,3 +1,4 @@
+pub mod Fields
 pub mod Request
 pub mod Reading
 pub mod Trace

@@ -1,5 +1,5 @@
 -- What the program has to answer.
-use Rattle.std.specs.Prelude.{◌≡◌, ℕ, Bool, true, false, List, [], ◌∷◌, ◌++◌, codes, Option, Some, None, unwrap_or, Result, Ok, Err}
+use Rattle.std.specs.Prelude.{◌≡◌, ℕ, Bool, true, false, List, [], ◌∷◌, ◌++◌, length, codes, Option, Some, None, unwrap_or, Result, Ok, Err}
 use Rattle.mote_base.specs.Files.{Named}
 use Rattle.mote_base.specs.declared.fault.Status.{Status}
 use Rattle.mote_base.specs.declared.fault.Status.TheVariants.{Done, Usage, Refused}
@@ -12,22 +12,27 @@ use Rattle.unit_code.specs.Errors.{error_number, error_word, error_kind}
 use Rattle.unit_code.specs.Listing.{Listing}
 use Rattle.unit_code.specs.Units.{refusal, listed}
 use Rattle.domain_model.specs.declared.request.Kind.{Kind}
+use Rattle.domain_model.specs.declared.script.Event.{Event}
+use Rattle.event_script.specs.declared.error.ScriptError.{ScriptError}
+use Rattle.event_script.specs.Law.{kind_number, line_number}
+use Rattle.event_script.specs.Refusals.{refusal_of, events_of}
 use Rattle.domain_model.specs.declared.request.Kind.TheVariants as kinds
 use Rattle.domain_model.specs.Command.{Command}
 use Rattle.domain_model.specs.Prepared.{marks_of}
 use Rattle.domain_model.specs.State.{Input}
-use Rattle.domain_model.specs.Text.{field}
+use Rattle.mote_sim.specs.Fields.{field}
 use Rattle.mote_sim.specs.Listing.{listing_text}
 use Rattle.mote_sim.specs.Reading.{Gathered, Whole, Longer, Missing, gathered}
 use Rattle.mote_sim.specs.Trace.{IsTraceOf, input_of}
 
 -- The words are no command; a file of the command isn't held; the file with that number is longer than its
--- limit; the script or an image is not built; this input is run; the file to list is no image; its code has no
+-- limit; the first file is no script; the script or an image is not built; this input is run; the file to list is no image; its code has no
 -- units; or these units are listed.
 pub data Outcome : Type 0 where
   NoCommand : Outcome
   Unheld : Outcome
   TooLong : ℕ → Outcome
+  BadScript : ScriptError → Outcome
   Unbuilt : Outcome
   Runs : Input → Outcome
   BadImage : ImageError → Outcome
@@ -38,15 +43,21 @@ abbrev pub outcome_with : Option Input → Outcome
 outcome_with None = Unbuilt
 outcome_with (Some i) = Runs i
 
+-- A script is refused before its images are looked at. It loads images by their numbers, so how many there are decides
+-- whether its lines are events.
+abbrev pub outcome_of_script : Option ScriptError → List Event → List (List ℕ) → Outcome
+outcome_of_script (Some e) events images = BadScript e
+outcome_of_script None events images = outcome_with (input_of events images)
+
 -- The units of an image are listed, also those that are not built, where its code is not refused.
 abbrev pub outcome_of_code : Contents → Option CodeError → Outcome
 outcome_of_code c (Some e) = BadCode e
-outcome_of_code c None = Lists (listed c.code (marks_of c))
+outcome_of_code c None = Lists (listed c.code (marks_of c) c.sealed)
 
 -- A rewriter's image is not built.
 abbrev pub outcome_of_contents : Bool → Contents → Outcome
 outcome_of_contents true c = Unbuilt
-outcome_of_contents false c = outcome_of_code c (refusal c.code (marks_of c))
+outcome_of_contents false c = outcome_of_code c (refusal c.code (marks_of c) c.sealed)
 
 abbrev pub outcome_of_image : Result Contents ImageError → Outcome
 outcome_of_image (Err e) = BadImage e
@@ -55,7 +66,7 @@ outcome_of_image (Ok c) = outcome_of_contents c.rewritten c
 -- By the bytes of a command's files: of `run` a script and its images, of `list` an image. (No command has other
 -- numbers of files.)
 abbrev pub outcome_by : Kind → List (List ℕ) → Outcome
-outcome_by kinds.Run (script ∷ images) = outcome_with (input_of script images)
+outcome_by kinds.Run (script ∷ images) = outcome_of_script (refusal_of (length images) script) (events_of script) images
 outcome_by kinds.Run [] = Unheld
 outcome_by kinds.Listing (file ∷ []) = outcome_of_image (image_of file)
 outcome_by kinds.Listing _ = Unheld
@@ -80,6 +91,10 @@ unbuilt_line = codes "refused unbuilt\n"
 abbrev pub size_line : ℕ → List ℕ
 size_line number = codes "refused size" ++ field number ++ codes "\n"
 
+-- The number of what refuses the script, and the line. (Want of memory refuses none.)
+abbrev pub script_line : ScriptError → List ℕ
+script_line e = codes "refused script" ++ field (kind_number e) ++ field (line_number e) ++ codes "\n"
+
 -- the number of what refuses the file, and its place or version
 abbrev pub image_line : ImageError → List ℕ
 image_line e = codes "refused image" ++ field (number_of e) ++ field (value_of e) ++ codes "\n"
@@ -95,6 +110,7 @@ abbrev pub Answers : Outcome → Status → List ℕ → Type 0
 Answers NoCommand status text = (status ≡ Usage) × (text ≡ usage_line)
 Answers Unheld status text = ⊥
 Answers (TooLong number) status text = (status ≡ Refused) × (text ≡ size_line number)
+Answers (BadScript e) status text = (status ≡ Refused) × (text ≡ script_line e)
 Answers Unbuilt status text = (status ≡ Refused) × (text ≡ unbuilt_line)
 Answers (Runs i) status text = (status ≡ Done) × IsTraceOf i text
 Answers (BadImage e) status text = (status ≡ Refused) × (text ≡ image_line e)

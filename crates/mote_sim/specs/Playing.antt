@@ -8,7 +8,7 @@ use Rattle.domain_model.specs.Good.{Good, IsGoodImage}
 use Rattle.domain_model.specs.Laws.{LawfulRunFrom}
 use Rattle.domain_model.specs.Prepared.{Prep, prepared}
 use Rattle.domain_model.specs.State.{State, Input, start}
-use Rattle.domain_model.specs.Text.{texts}
+use Rattle.trace_text.specs.Text.{texts}
 use Rattle.mote_sim.specs.Trace.{are_built}
 
 -- The lines of a lawful run from that state were put.

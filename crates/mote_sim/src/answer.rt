@@ -4,23 +4,27 @@ ghost use Rattle.mote_base.specs.Causes.{Rose};
 ghost use Rattle.mote_base.specs.Files.{Named};
 ghost use Rattle.mote_base.specs.Written.{Grows};
 ghost use Rattle.domain_model.specs.Command.{command_of, takes};
+ghost use Rattle.domain_model.specs.Good.{AreTimes};
+ghost use Rattle.domain_model.specs.Loader.{are_for_loader, is_for_loader, loader_events};
+ghost use Rattle.event_script.specs.Refusals.{events_of, refusal_of};
 ghost use Rattle.mote_sim.specs.Asking.{AsksBy, AsksFront, Came};
 ghost use Rattle.mote_sim.specs.Clauses.{WritesRun, WritesListing, Refuses, HasStatus, WritesFront};
 ghost use Rattle.mote_sim.specs.Ending.{Ends, IsAnswer, Answered, CutOff};
-ghost use Rattle.mote_sim.specs.Outcome.{Answers, AnswersOver, outcome, outcome_by, outcome_with, usage_line};
+ghost use Rattle.mote_sim.specs.Outcome.{Answers, AnswersOver, outcome, outcome_by, outcome_of_script, outcome_with, usage_line};
 ghost use Rattle.mote_sim.specs.Playing.{AreReady, StandsAt};
 ghost use Rattle.mote_sim.specs.Reading.{Admits, AdmitsEach, bytes_of};
 ghost use Rattle.mote_sim.specs.Trace.{input_of};
 ghost use Rattle.mote_sim.specs.Pieces.{LeadsBySome};
 
 use crate::listing::list;
-use crate::one_line::{put_answer, put_size};
+use crate::one_line::{put_answer, put_script, put_size};
 use crate::play::play;
 use crate::reading::{ReadStop, read_files};
 use crate::request::{Request, request_of};
-use domain_model::{Kind, Lines};
+use domain_model::{Event, Kind, Lines, What};
+use event_script::{Script, ScriptError, parse_script};
 use mote_base::{NoMemory, Shelf, Sink, Status, Word};
-use mote_core::{Limits, Mote, Ready, parse_script};
+use mote_core::{Limits, Mote, Ready};
 use mote_layout::{DEFAULT_HANDLER_UNITS, DEFAULT_UNITS};
 use std::alloc::Global;
 
@@ -39,14 +43,27 @@ fn prepare_images(alloc: Global, files: &[Vec<u8>]) -> Result<Option<Vec<Ready>>
     Ok(Some(images))
 }
 
-// A mote at the start of the run of a script over its images, where all are built.
-fn prepare(alloc: Global, script: &[u8], images: &[Vec<u8>]) -> Result<Option<Mote>, NoMemory>
-    ensures { IfOk result (λ found. StandsAt found (input_of script.now (bytes_of images.now))) }
+// Whether every event is a load or an unload.
+fn are_for_loader(events: &[Event]) -> bool
+    ensures { result ≡ are_for_loader events.now }
 {
-    let script = match parse_script(alloc, script, images.len())? {
-        None => return Ok(None),
-        Some(script) => script,
-    };
+    events.iter().all(is_for_loader)
+}
+
+fn is_for_loader(event: &Event) -> bool
+    ensures { result ≡ is_for_loader event.now.what }
+{
+    matches!(event.what, What::Load(_) | What::Unload(_))
+}
+
+// A mote at the start of the run of a script over its images, where all are built.
+fn prepare(alloc: Global, script: Script, images: &[Vec<u8>]) -> Result<Option<Mote>, NoMemory>
+    requires { AreTimes (loader_events script.events.items) }
+    ensures { IfOk result (λ found. StandsAt found (input_of script.events.items (bytes_of images.now))) }
+{
+    if !are_for_loader(&script.events) {
+        return Ok(None);
+    }
     let images = match prepare_images(alloc, images)? {
         None => return Ok(None),
         Some(images) => images,
@@ -59,10 +76,11 @@ fn prepare(alloc: Global, script: &[u8], images: &[Vec<u8>]) -> Result<Option<Mo
     Ok(Some(mote))
 }
 
-// Runs a script over its images. All memory is taken before the first line is put.
-fn run<K: Sink>(alloc: Global, script: &[u8], images: &[Vec<u8>], out: &mut K) -> Status
+// Runs the events of a script over its images. All memory is taken before the first line is put.
+fn run_script<K: Sink>(alloc: Global, script: Script, images: &[Vec<u8>], out: &mut K) -> Status
+    requires { AreTimes (loader_events script.events.items) }
     ensures { Ends K.written K.faults (LeadsBySome K.leads) out.old out.new 0 0
-        (Answers (outcome_with (input_of script.now (bytes_of images.now)))) result }
+        (Answers (outcome_with (input_of script.events.items (bytes_of images.now)))) result }
 {
     let mut mote = match prepare(alloc, script, images) {
         Err(_) => return Status::NoMemory,
@@ -76,6 +94,18 @@ fn run<K: Sink>(alloc: Global, script: &[u8], images: &[Vec<u8>], out: &mut K) -
     match play(&mut mote, &mut lines, out) {
         Ok(()) => Status::Done,
         Err(_) => Status::WriteFault,
+    }
+}
+
+// Runs a script over its images, where it is one.
+fn run<K: Sink>(alloc: Global, script: &[u8], images: &[Vec<u8>], out: &mut K) -> Status
+    ensures { Ends K.written K.faults (LeadsBySome K.leads) out.old out.new 0 0
+        (Answers (outcome_of_script (refusal_of (length images.now) script.now) (events_of script.now) (bytes_of images.now))) result }
+{
+    match parse_script(alloc, script, images.len()) {
+        Ok(script) => run_script(alloc, script, images, out),
+        Err(ScriptError::NoMemory) => Status::NoMemory,
+        Err(refusal) => put_script(out, &refusal),
     }
 }
 

@@ -6,8 +6,6 @@
 //! other status has its cause, and every status says what was written. The definitions of the answers stand in
 //! `specs/`: `Outcome`, `Trace` and `Listing` say what the answer has to be, `Reading` what the files come to,
 //! and `Ending` what each status says of the shelf and of the sink.
-//!
-//! `trace_text` is to be a crate of its own; it stands here as a private module under that name.
 #![tactic(auto)]
 
 mod answer;
@@ -17,7 +15,6 @@ mod one_line;
 mod play;
 mod reading;
 mod request;
-mod trace_text;
 
 pub use answer::mote_main;
 pub use certain::certain_status;

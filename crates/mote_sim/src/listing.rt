@@ -1,11 +1,12 @@
 //! The listing of an image's code.
 ghost use Rattle.std.specs.Prelude.{◌≡◌, ◌≤◌, length};
-ghost use Rattle.avr_list.specs.Lines.{listing_line};
+ghost use Rattle.std.specs.List.{AllByRecursion};
+ghost use Rattle.mote_layout.specs.Memory.{bank_words};
+ghost use Rattle.avr_list.specs.Lines.{listing_from, listing_line};
 ghost use Rattle.mote_base.specs.Written.{Puts};
 ghost use Rattle.module_image.specs.Reading.{image_of};
-ghost use Rattle.unit_code.specs.Proper.{IsOfKind, IsProper};
+ghost use Rattle.unit_code.specs.Proper.{IsOfKind};
 ghost use Rattle.mote_sim.specs.Ending.{Ends};
-ghost use Rattle.mote_sim.specs.Listing.{listing_from};
 ghost use Rattle.mote_sim.specs.Outcome.{Answers, outcome_of_contents, outcome_of_image};
 ghost use Rattle.mote_sim.specs.Pieces.{LeadsBySome};
 
@@ -30,7 +31,8 @@ fn put_unit<K: Sink>(out: &mut K, number: u16, place: u16, unit: &Unit) -> Resul
 
 // Puts the lines of the units in their order, up to the first put that fails.
 fn put_units<K: Sink>(out: &mut K, units: &[Unit], places: &[u16]) -> Result<(), Failed>
-    requires proper { IsProper units.now }
+    requires fits { length units.now ≤ bank_words }
+    requires kinds { AllByRecursion IsOfKind units.now }
     requires placed { length places.now ≡ length units.now }
     ensures { Puts K.written K.faults (LeadsBySome K.leads) out.old out.new
         (listing_from 0 units.now places.now) result }
@@ -52,7 +54,7 @@ fn list_contents<K: Sink>(alloc: Global, image: &ImageView<'_>, out: &mut K) -> 
     }
     let code = image.code();
     let marks = image.marks();
-    let list = match units(alloc, &code, marks.as_slice()) {
+    let list = match units(alloc, &code, marks.as_slice(), image.sealed()) {
         Ok(list) => list,
         Err(CodeError::NoMemory) => return Status::NoMemory,
         Err(refusal) => return put_code(out, &refusal),

@@ -1,13 +1,14 @@
 //! Answers that are one line.
 ghost use Rattle.std.specs.Prelude.{◌≡◌, ◌⊎◌, ◌<◌, length};
 ghost use Rattle.mote_sim.specs.Ending.{Ends, IsAnswer};
-ghost use Rattle.mote_sim.specs.Outcome.{Answers, BadCode, BadImage, TooLong};
+ghost use Rattle.mote_sim.specs.Outcome.{Answers, BadCode, BadImage, BadScript, TooLong};
 ghost use Rattle.mote_sim.specs.Pieces.{LeadsBySome};
 
-use crate::trace_text::{add_field, add_text};
 use arrayvec::ArrayVec;
+use event_script::ScriptError;
 use module_image::ImageError;
-use mote_base::{Line, Sink, Status};
+use mote_base::{Line, Sink, Status, add_text};
+use trace_text::add_field;
 use unit_code::CodeError;
 
 /// Puts a line that is the whole output, and that is not empty.
@@ -31,6 +32,19 @@ pub fn put_size<K: Sink>(out: &mut K, number: usize) -> Status
     let mut line: Line = ArrayVec::new();
     add_text(&mut line, b"refused size");
     add_field(&mut line, number as u64);
+    add_text(&mut line, b"\n");
+    put_answer(out, line.as_slice(), Status::Refused)
+}
+
+/// Puts the line on a file that is no script.
+pub fn put_script<K: Sink>(out: &mut K, refusal: &ScriptError) -> Status
+    ensures { Ends K.written K.faults (LeadsBySome K.leads) out.old out.new 0 0
+        (Answers (BadScript refusal.now)) result }
+{
+    let mut line: Line = ArrayVec::new();
+    add_text(&mut line, b"refused script");
+    add_field(&mut line, u64::from(refusal.number()));
+    add_field(&mut line, refusal.line());
     add_text(&mut line, b"\n");
     put_answer(out, line.as_slice(), Status::Refused)
 }

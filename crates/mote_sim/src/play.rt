@@ -2,15 +2,15 @@
 ghost use Rattle.std.specs.Prelude.{◌≡◌};
 ghost use Rattle.mote_base.specs.Written.{Puts};
 ghost use Rattle.domain_model.specs.Good.{Good};
-ghost use Rattle.domain_model.specs.Text.{text, texts};
+ghost use Rattle.trace_text.specs.Text.{text, texts};
 ghost use Rattle.mote_sim.specs.Playing.{Plays};
 ghost use Rattle.mote_sim.specs.Pieces.{LeadsBySome};
 
-use crate::trace_text::put_line;
 use arrayvec::ArrayVec;
 use domain_model::{Lines, TraceLine, Turned};
 use mote_base::{Failed, Line, Sink};
 use mote_core::Mote;
+use trace_text::put_line;
 
 // Puts a line of the trace by one put.
 fn tell_line<K: Sink>(out: &mut K, told: &TraceLine) -> Result<(), Failed>

@@ -9,4 +9,4 @@ module_of-requires-clause-marks c = as_many_marks c.args.image.now c.args.list c
 pub returns-then-are_built-clause-good : goal.returns-then-are_built-clause-good
 returns-then-are_built-clause-good c =
     let built = sym c.are_built.ensures ∙ c.if-are_built.true in
-    rw c.module_of.ensures (good_prepared c.args.image.now c.args.list c.requires.face c.requires.proper c.requires.together (rw (c.as_slice.ensures.value, ap (λ (l : Listing). l.units) c.list.view_is) at built))
+    rw c.module_of.ensures (good_prepared c.args.image.now c.args.list c.requires.face c.args.image.now.sealed c.requires.proper c.requires.together (rw (c.as_slice.ensures.value, ap (λ (l : Listing). l.units) c.list.view_is) at built))

@@ -4,11 +4,10 @@ use Rattle.std.proofs.lemmas.Option.{slice_get-get_or}
 use Rattle.unit_code.specs.declared.unit.Unit.{Unit}
 use Rattle.unit_code.specs.Proper.{IsOfKind}
 use Rattle.domain_model.proofs.Kept.{each_at}
-use Rattle.domain_model.proofs.UnitLaws.{proper_fits}
 use Rattle.avr_list.specs.Lines.{listing_line}
 use Rattle.mote_base.proofs.Puts.{puts_err}
 use Rattle.mote_base.proofs.SoFar.{so_far_more, so_far_broke}
-use Rattle.mote_sim.specs.Listing.{listing_from}
+use Rattle.avr_list.specs.Lines.{listing_from}
 use Rattle.mote_sim.proofs.listing.put_units.Goals as goal
 
 next : (us : List Unit) (places : List ℕ) (i : ℕ) (u : Unit) (place : ℕ) → i < length us → length places ≡ length us → listing_from i (drop i us) (drop i places) ≡ listing_line i (get_or places i place) (get_or us i u) ++ listing_from (i + 1) (drop (i + 1) us) (drop (i + 1) places)
@@ -19,10 +18,10 @@ next us places i u place within placed =
     ∙ rw add-one refl
 
 pub overflow_cast-number : goal.overflow_cast-number
-overflow_cast-number g c = omega (arith, proper_fits c.args.units.now c.requires.proper)
+overflow_cast-number g c = omega (arith, c.requires.fits)
 
 pub put_unit-requires : goal.put_unit-requires
-put_unit-requires g c = each_at IsOfKind c.args.units.now c.loop-number.number _ c.requires.proper.kinds (slice_get-get_or c.args.units.now c.loop-number.number _ c.loop-number-test.true)
+put_unit-requires g c = each_at IsOfKind c.args.units.now c.loop-number.number _ c.requires.kinds (slice_get-get_or c.args.units.now c.loop-number.number _ c.loop-number-test.true)
 
 pub loop-number-preserved : goal.loop-number-preserved
 loop-number-preserved g c =

@@ -1,6 +1,6 @@
 use Rattle.std.proofs.Common.{drop}
 use Rattle.mote_base.proofs.SoFar.{SoFar}
-use Rattle.mote_sim.specs.Listing.{listing_from}
+use Rattle.avr_list.specs.Lines.{listing_from}
 use Rattle.mote_sim.specs.Pieces.{LeadsBySome}
 use Rattle.mote_sim.proofs.listing.put_units.Given as goal
 

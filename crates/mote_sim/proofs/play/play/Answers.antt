@@ -1,6 +1,6 @@
 use Rattle.std.proofs.Common.{◌≡◌, ◌∙◌, sym, subst}
 use Rattle.domain_model.specs.declared.event.Turned.TheVariants.{More, EndIdle, EndBudget}
-use Rattle.domain_model.specs.Text.{texts}
+use Rattle.trace_text.specs.Text.{texts}
 use Rattle.mote_base.specs.Written.{Wrote, Broke}
 use Rattle.mote_sim.specs.Pieces.{LeadsBySome}
 use Rattle.mote_sim.proofs.Far.{far_turn, far_over, far_stopped, plays_err}

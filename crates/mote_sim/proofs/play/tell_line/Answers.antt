@@ -1,5 +1,5 @@
 use Rattle.std.proofs.Common.{◌≡◌, ◌∙◌, ◌<◌, ℕ, List, length, sym, subst}
-use Rattle.domain_model.specs.Text.{text}
+use Rattle.trace_text.specs.Text.{text}
 use Rattle.mote_base.specs.Written.{Puts}
 use Rattle.mote_base.proofs.Puts.{puts_one}
 use Rattle.mote_sim.specs.Pieces.{LeadsBySome}

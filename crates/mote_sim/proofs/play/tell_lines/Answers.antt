@@ -3,7 +3,7 @@ use Rattle.std.proofs.Math.Seq.{drop-cons}
 use Rattle.mote_base.proofs.Puts.{puts_err}
 use Rattle.mote_base.proofs.SoFar.{so_far_more, so_far_broke}
 use Rattle.domain_model.specs.declared.line.TraceLine.{TraceLine}
-use Rattle.domain_model.specs.Text.{text, texts}
+use Rattle.trace_text.specs.Text.{text, texts}
 use Rattle.mote_sim.proofs.play.tell_lines.Goals as goal
 
 next : (lines : List TraceLine) (i : ℕ) (line : TraceLine) → i < length lines → texts (drop i lines) ≡ text (get_or lines i line) ++ texts (drop (i + 1) lines)

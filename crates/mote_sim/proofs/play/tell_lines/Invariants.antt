@@ -1,5 +1,5 @@
 use Rattle.std.proofs.Common.{drop}
-use Rattle.domain_model.specs.Text.{texts}
+use Rattle.trace_text.specs.Text.{texts}
 use Rattle.mote_base.proofs.SoFar.{SoFar}
 use Rattle.mote_sim.specs.Pieces.{LeadsBySome}
 use Rattle.mote_sim.proofs.play.tell_lines.Given as goal
