@@ -5,7 +5,7 @@ ghost use Rattle.mote_layout.specs.Memory.{heap_end};
 ghost use Rattle.mote_layout.specs.Blocks.{AreBlocks};
 ghost use Rattle.mote_layout.specs.Parcels.{IsParcelOf};
 
-use mote_layout::{DOMAINS, KERNEL, Segment};
+use mote_layout::{BLOCK_BYTES, BLOCKS, DOMAINS, KERNEL, Segment, block_address};
 use sos_heap::{Heap, NotOwner, Parcel};
 use std::test::Fail;
 
@@ -31,6 +31,25 @@ fn lift_held(heap: &mut Heap, d: u8, a: u16, len: u16) -> Option<Parcel>
         unreachable!()
     };
     Some(parcel)
+}
+
+/// The address of a request by a plain scan of the blocks.
+fn scanned(heap: &Heap, size: u16) -> Option<u16> {
+    if size == 0 {
+        return None;
+    }
+    let count = size.div_ceil(BLOCK_BYTES);
+    let mut run = 0;
+    for block in 0..BLOCKS {
+        if heap.map().segment_at(block_address(block)).is_some() {
+            run = 0;
+        } else if run + 1 < count {
+            run += 1;
+        } else {
+            return Some(block_address(block - run));
+        }
+    }
+    None
 }
 
 /// The map of a heap is in order.
@@ -111,5 +130,42 @@ fn passes_blocks_on(rt: HostRuntime) -> Result<(), Fail> {
         owner: 0,
     };
     assert_eq!(rt; look(&heap, 0x0207), Some(segment));
+    Ok(())
+}
+
+/// Each row is a request of domain 1 and the address of a block that it gives back afterwards.
+#[test]
+fn places_as_a_scan_does(rt: HostRuntime) -> Result<(), Fail> {
+    let mut heap = Heap::new(rt.alloc())?;
+    for (size, back) in [
+        (24, 0),
+        (8, 0),
+        (1, 0),
+        (40, 0),
+        (100, 0x0200),
+        (9, 0x0218),
+        (16, 0),
+        (25, 0x0228),
+        (3072, 0),
+        (2700, 0),
+        (300, 0),
+        (64, 0x0250),
+        (8, 0),
+        (65, 0x0218),
+        (0, 0x0220),
+        (17, 0x0200),
+        (33, 0),
+        (104, 0),
+        (8, 0x0D00),
+        (250, 0x02B8),
+        (2600, 0),
+        (2700, 0),
+        (1, 0),
+    ] {
+        let place = scanned(&heap, size);
+        assert_eq!(rt; heap.give(1, size), place, "{size} bytes");
+        let held = heap.holds(1, back, 0);
+        assert_eq!(rt; heap.release(1, back).is_ok(), held, "at {back:04x}");
+    }
     Ok(())
 }

@@ -8,6 +8,7 @@ ghost use Rattle.mote_layout.specs.Parcels.{IsParcelOf};
 ghost use Rattle.mote_layout.specs.Parcels.{KernelStays, KernelGains, KernelLoses};
 
 use crate::Parcel;
+use crate::blocks::Blocks;
 use crate::fit::serve;
 use crate::held::{NotOwner, beginning_at, clear_owner, hand_over, held, held_bytes};
 use memory_map::MemoryMap;
@@ -19,7 +20,7 @@ use std::marker::Model;
 /// The blocks of the heap and who holds them.
 #[derive(Drop)]
 pub struct Heap {
-    map: MemoryMap,
+    blocks: Blocks,
 }
 
 impl Model for Heap {
@@ -29,9 +30,9 @@ impl Model for Heap {
 
     ghost Value = { List Segment };
 
-    ghost view = { λ h. h.map };
+    ghost view = { λ h. h.blocks };
 
-    ghost invariant = { λ h. AreBlocks h.map };
+    ghost invariant = { λ h. AreBlocks h.blocks };
 }
 
 impl Heap {
@@ -39,8 +40,8 @@ impl Heap {
     pub fn new(alloc: Global) -> Result<Heap, NoMemory>
         ensures { IfOk result (λ heap. heap ≡ []) }
     {
-        let map = MemoryMap::new(alloc)?;
-        Ok(Heap { map })
+        let blocks = Blocks::new(alloc)?;
+        Ok(Heap { blocks })
     }
 
     /// Gives a domain a block for `size` bytes, and answers its address: None exactly where `size` is 0 or
@@ -54,7 +55,7 @@ impl Heap {
         ensures blocks { AreBlocks self.old × AreBlocks self.new }
         ensures kernel { KernelStays self.old self.new }
     {
-        let block = serve(&mut self.map, size, d)?;
+        let block = serve(&mut self.blocks, size, d)?;
         Some(block_address(block))
     }
 
@@ -67,7 +68,7 @@ impl Heap {
         ensures blocks { AreBlocks self.old × AreBlocks self.new }
         ensures kernel { MatchOption result (KernelStays self.old self.new) (λ p. KernelGains p self.old self.new) }
     {
-        let block = serve(&mut self.map, size, KERNEL)?;
+        let block = serve(&mut self.blocks, size, KERNEL)?;
         Some(Parcel::new(block, size))
     }
 
@@ -81,8 +82,8 @@ impl Heap {
         ensures blocks { AreBlocks self.old × AreBlocks self.new }
         ensures kernel { KernelStays self.old self.new }
     {
-        let segment = held(&self.map, d, a)?;
-        self.map.clear_segment(segment.first);
+        let segment = held(&self.blocks, d, a)?;
+        self.blocks.clear_segment(segment);
         Ok(())
     }
 
@@ -97,8 +98,8 @@ impl Heap {
         ensures blocks { AreBlocks self.old × AreBlocks self.new }
         ensures kernel { KernelStays self.old self.new }
     {
-        let segment = held(&self.map, d, a)?;
-        hand_over(&mut self.map, segment, to);
+        let segment = held(&self.blocks, d, a)?;
+        hand_over(&mut self.blocks, segment, to);
         Ok(())
     }
 
@@ -113,8 +114,8 @@ impl Heap {
         ensures blocks { AreBlocks self.old × AreBlocks self.new }
         ensures kernel { IfOk result (λ p. KernelGains p self.old self.new) }
     {
-        let segment = held_bytes(&self.map, d, a, len)?;
-        hand_over(&mut self.map, segment, KERNEL);
+        let segment = held_bytes(&self.blocks, d, a, len)?;
+        hand_over(&mut self.blocks, segment, KERNEL);
         Ok(Parcel::new(segment.first, len))
     }
 
@@ -128,10 +129,10 @@ impl Heap {
         ensures kernel { KernelLoses p self.old self.new }
     {
         let address = p.addr();
-        let Some(segment) = beginning_at(&self.map, address) else {
+        let Some(segment) = beginning_at(&self.blocks, address) else {
             unreachable!()
         };
-        hand_over(&mut self.map, segment, d);
+        hand_over(&mut self.blocks, segment, d);
         address
     }
 
@@ -142,7 +143,11 @@ impl Heap {
         ensures blocks { AreBlocks self.old × AreBlocks self.new }
         ensures kernel { KernelLoses p self.old self.new }
     {
-        self.map.clear_segment(p.block());
+        let address = p.addr();
+        let Some(segment) = beginning_at(&self.blocks, address) else {
+            unreachable!()
+        };
+        self.blocks.clear_segment(segment);
     }
 
     /// Frees all blocks of a domain.
@@ -152,7 +157,7 @@ impl Heap {
         ensures blocks { AreBlocks self.old × AreBlocks self.new }
         ensures kernel { KernelStays self.old self.new }
     {
-        clear_owner(&mut self.map, d);
+        clear_owner(&mut self.blocks, d);
     }
 
     /// Whether what a domain has begins at an address and has at least `len` bytes. It changes nothing.
@@ -160,7 +165,7 @@ impl Heap {
         ensures held { IsTrue result ↔ HoldsBytes self.now d a len }
         ensures blocks { AreBlocks self.now }
     {
-        held_bytes(&self.map, d, a, len).is_ok()
+        held_bytes(&self.blocks, d, a, len).is_ok()
     }
 
     /// The map of these blocks.
@@ -168,6 +173,6 @@ impl Heap {
         ensures map { result.now ≡ self.now }
         ensures blocks { AreBlocks result.now }
     {
-        &self.map
+        self.blocks.map()
     }
 }

@@ -1,11 +1,12 @@
-//! What the heap asks of its map, and the changes of single entries.
+//! What the heap asks of its blocks, and the changes of single entries.
 
-ghost use Rattle.std.specs.Prelude.{◌≡◌, ◌<◌, ◌≤◌, ◌*◌, Some, IfOk, IsErr, IsTrue, ◌↔◌, MatchResult};
-ghost use Rattle.mote_layout.specs.Blocks.{AreBlocks, AreFree, starting_at, handed_over, without_owner};
+ghost use Rattle.std.specs.Prelude.{◌≡◌, ◌≤◌, ◌*◌, Some, IfOk, IsErr, ◌↔◌, MatchResult};
+ghost use Rattle.mote_layout.specs.Blocks.{AreBlocks, starting_at, handed_over, without_owner};
 ghost use Rattle.mote_layout.specs.Memory.{block_bytes};
 ghost use Rattle.sos_heap.specs.Requests.{beginning_at, Holds, HoldsBytes};
 
-use memory_map::{MemoryMap, Segment};
+use crate::blocks::Blocks;
+use memory_map::Segment;
 use mote_layout::{BLOCK_BYTES, BLOCKS, KERNEL, block_address};
 use thiserror::Error;
 
@@ -14,21 +15,12 @@ use thiserror::Error;
 #[error("not the start of a block of the domain")]
 pub struct NotOwner;
 
-/// Whether a block is free.
-pub fn is_free(map: &MemoryMap, block: u16) -> bool
-    requires { block < BLOCKS }
-    ensures free { IsTrue result ↔ AreFree map.now block 1 }
-    ensures blocks { AreBlocks map.now }
-{
-    map.segment_at(block_address(block)).is_none()
-}
-
 /// The segment that begins at an address.
-pub fn beginning_at(map: &MemoryMap, a: u16) -> Option<Segment>
-    ensures segment { result ≡ beginning_at map.now a }
-    ensures blocks { AreBlocks map.now }
+pub fn beginning_at(blocks: &Blocks, a: u16) -> Option<Segment>
+    ensures segment { result ≡ beginning_at blocks.now a }
+    ensures blocks { AreBlocks blocks.now }
 {
-    let segment = map.segment_at(a)?;
+    let segment = blocks.segment_at(a)?;
     if block_address(segment.first) == a {
         Some(segment)
     } else {
@@ -37,23 +29,23 @@ pub fn beginning_at(map: &MemoryMap, a: u16) -> Option<Segment>
 }
 
 /// The segment of a domain that begins at an address.
-pub fn held(map: &MemoryMap, d: u8, a: u16) -> Result<Segment, NotOwner>
-    ensures held { MatchResult result (λ s. (beginning_at map.now a ≡ Some s) × (s.owner ≡ d)) (λ _. ¬ Holds map.now d a) }
-    ensures blocks { AreBlocks map.now }
+pub fn held(blocks: &Blocks, d: u8, a: u16) -> Result<Segment, NotOwner>
+    ensures held { MatchResult result (λ s. (beginning_at blocks.now a ≡ Some s) × (s.owner ≡ d)) (λ _. ¬ Holds blocks.now d a) }
+    ensures blocks { AreBlocks blocks.now }
 {
-    match beginning_at(map, a) {
+    match beginning_at(blocks, a) {
         Some(segment) if segment.owner == d => Ok(segment),
         _ => Err(NotOwner),
     }
 }
 
 /// The segment of a domain that begins at an address and has at least `len` bytes.
-pub fn held_bytes(map: &MemoryMap, d: u8, a: u16, len: u16) -> Result<Segment, NotOwner>
-    ensures held { IfOk result (λ s. (beginning_at map.now a ≡ Some s) × (s.owner ≡ d) × (len ≤ block_bytes * s.count)) }
-    ensures refused { IsErr result ↔ (¬ HoldsBytes map.now d a len) }
-    ensures blocks { AreBlocks map.now }
+pub fn held_bytes(blocks: &Blocks, d: u8, a: u16, len: u16) -> Result<Segment, NotOwner>
+    ensures held { IfOk result (λ s. (beginning_at blocks.now a ≡ Some s) × (s.owner ≡ d) × (len ≤ block_bytes * s.count)) }
+    ensures refused { IsErr result ↔ (¬ HoldsBytes blocks.now d a len) }
+    ensures blocks { AreBlocks blocks.now }
 {
-    let segment = held(map, d, a)?;
+    let segment = held(blocks, d, a)?;
     if BLOCK_BYTES * segment.count < len {
         return Err(NotOwner);
     }
@@ -61,23 +53,23 @@ pub fn held_bytes(map: &MemoryMap, d: u8, a: u16, len: u16) -> Result<Segment, N
 }
 
 /// Gives a segment to another owner.
-pub fn hand_over(map: &mut MemoryMap, segment: Segment, owner: u8)
-    requires there { starting_at map.old segment.first ≡ Some segment }
+pub fn hand_over(blocks: &mut Blocks, segment: Segment, owner: u8)
+    requires there { starting_at blocks.old segment.first ≡ Some segment }
     requires owner { owner ≤ KERNEL }
-    ensures handed_over { map.new ≡ handed_over segment.first owner map.old }
-    ensures blocks { AreBlocks map.old × AreBlocks map.new }
+    ensures handed_over { blocks.new ≡ handed_over segment.first owner blocks.old }
+    ensures blocks { AreBlocks blocks.old × AreBlocks blocks.new }
 {
-    map.clear_segment(segment.first);
-    map.set_segment(segment.first, segment.count, owner);
+    blocks.clear_segment(segment);
+    blocks.set_segment(segment.first, segment.count, owner);
 }
 
 /// Frees the blocks of a domain.
-pub fn clear_owner(map: &mut MemoryMap, d: u8)
-    ensures cleared { map.new ≡ without_owner d map.old }
+pub fn clear_owner(blocks: &mut Blocks, d: u8)
+    ensures cleared { blocks.new ≡ without_owner d blocks.old }
 {
     for block in 0..BLOCKS {
-        if let Ok(segment) = held(map, d, block_address(block)) {
-            map.clear_segment(segment.first);
+        if let Ok(segment) = held(blocks, d, block_address(block)) {
+            blocks.clear_segment(segment);
         }
     }
 }

@@ -37,14 +37,6 @@ impl Parcel {
         Parcel { block, len }
     }
 
-    /// The block with which its bytes begin.
-    pub(crate) fn block(&self) -> u16
-        ensures block { result ≡ self.now.block }
-        ensures within { result < BLOCKS }
-    {
-        self.block
-    }
-
     /// The address of its first byte.
     pub fn addr(&self) -> u16
         ensures address { result ≡ block_address self.now.block }

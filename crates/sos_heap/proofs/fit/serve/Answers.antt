@@ -8,5 +8,5 @@ pub set_segment-requires-clause-free : goal.set_segment-requires-clause-free
 set_segment-requires-clause-free c =
     let count = c.div_ceil-count.result in
     let some : 1 ≤ count = search rules in
-    let found : fit c.args.map.now count ≡ Some c.in_ok-first.first = sym c.lowest_fit.ensures ∙ c.in_ok-first.was in
-    ((fit-some c.args.map.now count c.in_ok-first.first some).0 found).fits
+    let found : fit c.args.blocks.now count ≡ Some c.in_ok-first.first = sym c.lowest_fit.ensures ∙ c.in_ok-first.was in
+    ((fit-some c.args.blocks.now count c.in_ok-first.first some).0 found).fits

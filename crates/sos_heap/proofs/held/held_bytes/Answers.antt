@@ -5,5 +5,5 @@ use Rattle.sos_heap.proofs.held.held_bytes.Goals as goal
 
 pub overflow_mul-segment : goal.overflow_mul-segment
 overflow_mul-segment c =
-    let begun = begins_at c.args.map.now c.args.a c.in_ok-segment.segment c.held.ensures.blocks c.in_ok-segment.ensures.held.0 in
+    let begun = begins_at c.args.blocks.now c.args.a c.in_ok-segment.segment c.held.ensures.blocks c.in_ok-segment.ensures.held.0 in
     omega (arith, begun.fits.2)
