@@ -1,1 +1,4 @@
-pub mod Places
+pub mod Bytes
+pub mod Loops
+pub mod OneList
+pub mod Telling

@@ -1,34 +1,30 @@
-//! A map that keeps its segments as they are, in one list.
+//! The map, over the bytes of its blocks.
 
-ghost use Rattle.std.specs.Prelude.{◌≡◌, ◌≤◌, ◌↔◌, nat_lt, [], None, IfOk, IsSome};
-ghost use Rattle.std.specs.List.{prefix_len};
-ghost use Rattle.mote_layout.specs.Blocks.{AreBlocks, IsFreeAddress, covers, owner_at, segment_at, starting_at, Fits, inserted, without};
+ghost use Rattle.std.specs.Prelude.{◌≡◌, ◌≤◌, ◌↔◌, [], None, IfOk, IsSome};
+ghost use Rattle.mote_layout.specs.Blocks.{AreBlocks, IsFreeAddress, owner_at, segment_at, starting_at, Fits, inserted, without};
 
-use arrayvec::ArrayVec;
+use crate::marks::{MARKS, owner_in, paint, segment_in, wipe};
 use mote_base::NoMemory;
-use mote_layout::{BLOCK_BYTES, BLOCKS, HEAP_START, KERNEL, Segment};
+use mote_layout::{KERNEL, Segment};
 use std::alloc::Global;
 use std::marker::Model;
 
-/// No map has more segments than the heap has blocks.
-const SEGMENTS: usize = BLOCKS as usize;
-
-/// The segments of the heap. What no segment has is free.
+/// The owners of the blocks of the heap, a byte a block. What no segment has is free.
 #[derive(Drop)]
 pub struct MemoryMap {
-    segments: Box<ArrayVec<Segment, SEGMENTS>>,
+    bytes: Box<[u8; MARKS]>,
 }
 
 impl Model for MemoryMap {
     ghost use Rattle.std.specs.Prelude.{List};
     ghost use Rattle.mote_layout.specs.declared.segment.Segment.{Segment};
-    ghost use Rattle.mote_layout.specs.Blocks.{AreBlocks};
+    ghost use Rattle.memory_map.specs.Marks.{segments_from, StandFor};
 
     ghost Value = { List Segment };
 
-    ghost view = { λ m. m.segments.value.items };
+    ghost view = { λ m. segments_from 0 m.bytes.value };
 
-    ghost invariant = { λ m. AreBlocks m.segments.value.items };
+    ghost invariant = { λ m. StandFor (segments_from 0 m.bytes.value) m.bytes.value };
 }
 
 impl MemoryMap {
@@ -36,8 +32,8 @@ impl MemoryMap {
     pub fn new(alloc: Global) -> Result<MemoryMap, NoMemory>
         ensures { IfOk result (λ map. map ≡ []) }
     {
-        let segments = Box::new(alloc, ArrayVec::new())?;
-        Ok(MemoryMap { segments })
+        let bytes = Box::new(alloc, [0; MARKS])?;
+        Ok(MemoryMap { bytes })
     }
 
     /// Gives the `count` blocks from `first` on to an owner, as one segment.
@@ -48,13 +44,7 @@ impl MemoryMap {
         ensures set { self.new ≡ inserted (record { first = first; count = count; owner = owner }) self.old }
         ensures blocks { AreBlocks self.old × AreBlocks self.new }
     {
-        let segment = Segment {
-            first,
-            count,
-            owner,
-        };
-        let place = count_before(self.segments.as_slice(), first);
-        self.segments.insert(place, segment);
+        paint(&mut *self.bytes, first, count, owner);
     }
 
     /// Frees the blocks of the segment that begins with the block `first`.
@@ -63,8 +53,7 @@ impl MemoryMap {
         ensures cleared { self.new ≡ without first self.old }
         ensures blocks { AreBlocks self.old × AreBlocks self.new }
     {
-        let place = count_before(self.segments.as_slice(), first);
-        self.segments.remove(place);
+        wipe(&mut *self.bytes, first);
     }
 
     /// The owner of an address. What is free or outside the heap counts as the kernel's.
@@ -72,7 +61,7 @@ impl MemoryMap {
         ensures owner { result ≡ owner_at self.now a }
         ensures blocks { AreBlocks self.now }
     {
-        self.segment_at(a).map_or(KERNEL, |segment| segment.owner)
+        owner_in(&*self.bytes, a)
     }
 
     /// The segment in which an address lies, or None where its block is free or it is outside the heap.
@@ -81,34 +70,6 @@ impl MemoryMap {
         ensures none { (result ≡ None) ↔ IsFreeAddress self.now a }
         ensures blocks { AreBlocks self.now }
     {
-        covering(self.segments.as_slice(), a)
+        segment_in(&*self.bytes, a)
     }
-}
-
-/// How many segments begin before a block.
-fn count_before(segments: &[Segment], block: u16) -> usize
-    ensures { result ≡ prefix_len (λ s. nat_lt s.first block) segments.now }
-{
-    segments
-        .iter()
-        .take_while(|segment| segment.first < block)
-        .count()
-}
-
-/// The first of the segments in which an address lies.
-fn covering(segments: &[Segment], a: u16) -> Option<Segment>
-    ensures { result ≡ segment_at segments.now a }
-{
-    segments.iter().copied().find(|segment| is_in(a, segment))
-}
-
-/// Whether an address lies in a segment.
-fn is_in(a: u16, segment: &Segment) -> bool
-    ensures { result ≡ covers segment.now a }
-{
-    let Some(offset) = a.checked_sub(HEAP_START) else {
-        return false;
-    };
-    let block = offset / BLOCK_BYTES;
-    segment.first <= block && block - segment.first < segment.count
 }

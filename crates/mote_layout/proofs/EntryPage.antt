@@ -4,7 +4,7 @@ use Rattle.std.proofs.lemmas.Option.{none-some, same_Some}
 use Rattle.std.proofs.lemmas.Bool.{le-leb, le-ltb, lt-ltb, leb-true, ltb-true, and_from, and_right, and_parts, cond-true, cond-false, cases_Bool}
 use Rattle.mote_layout.specs.Page.{StandsAt, IsInNoRow, Row, page, entry_among, entry_at}
 use Rattle.mote_layout.specs.declared.page.Entry.{Entry}
-use Rattle.mote_layout.specs.declared.page.Entry.TheVariants.{StoreX, StoreXInc, StoreXDec, StoreYInc, StoreYDec, StoreZInc, StoreZDec, StoreY, StoreZ, StoreSts, PushGuard, PopGuard, SpGuard, LocalCall, SlotIndirect, Return, Reserve, Kernel, Slot}
+use Rattle.mote_layout.specs.declared.page.Entry.TheVariants.{StoreX, StoreXInc, StoreXDec, StoreYInc, StoreYDec, StoreZInc, StoreZDec, StoreY, StoreZ, StoreSts, LoadX, LoadXInc, LoadXDec, LoadYInc, LoadYDec, LoadZInc, LoadZDec, LoadY, LoadZ, LoadLds, PushGuard, PopGuard, SpGuard, LocalCall, SlotIndirect, Return, Reserve, Kernel, Slot}
 
 -- a row that ends before the address is passed over
 entry_among-past : (r : Row) (rs : List Row) (a : ℕ) → r.first + r.count ≤ a → entry_among (r ∷ rs) a ≡ entry_among rs a
@@ -46,6 +46,8 @@ entry_at-standing (StoreY q) a h = entry_at-row 7 a q _ _ refl refl refl h.0 h.1
 entry_at-standing (StoreZ q) a h = entry_at-row 8 a q _ _ refl refl refl h.0 h.1
 entry_at-standing (Kernel n) a h = entry_at-row 17 a n _ _ refl refl refl h.0 h.1
 entry_at-standing (Slot i) a h = entry_at-row 18 a i _ _ refl refl refl h.0 h.1
+entry_at-standing (LoadY q) a h = entry_at-row 19 a q _ _ refl refl refl h.0 h.1
+entry_at-standing (LoadZ q) a h = entry_at-row 20 a q _ _ refl refl refl h.0 h.1
 entry_at-standing StoreX a h = rw h refl
 entry_at-standing StoreXInc a h = rw h refl
 entry_at-standing StoreXDec a h = rw h refl
@@ -54,6 +56,14 @@ entry_at-standing StoreYDec a h = rw h refl
 entry_at-standing StoreZInc a h = rw h refl
 entry_at-standing StoreZDec a h = rw h refl
 entry_at-standing StoreSts a h = rw h refl
+entry_at-standing LoadX a h = rw h refl
+entry_at-standing LoadXInc a h = rw h refl
+entry_at-standing LoadXDec a h = rw h refl
+entry_at-standing LoadYInc a h = rw h refl
+entry_at-standing LoadYDec a h = rw h refl
+entry_at-standing LoadZInc a h = rw h refl
+entry_at-standing LoadZDec a h = rw h refl
+entry_at-standing LoadLds a h = rw h refl
 entry_at-standing PushGuard a h = rw h refl
 entry_at-standing PopGuard a h = rw h refl
 entry_at-standing SpGuard a h = rw h refl
@@ -86,7 +96,7 @@ entry_among-cases (r ∷ rs) a sound =
 -- the rows of the page hold what stands there
 page_sound : AreSound page
 unfolding page
-page_sound = ((λ i h. omega arith), ((λ i h. omega arith), ((λ i h. omega arith), ((λ i h. omega arith), ((λ i h. omega arith), ((λ i h. omega arith), ((λ i h. omega arith), ((λ i h. (h, refl)), ((λ i h. (h, refl)), ((λ i h. omega arith), ((λ i h. omega arith), ((λ i h. omega arith), ((λ i h. omega arith), ((λ i h. omega arith), ((λ i h. omega arith), ((λ i h. omega arith), ((λ i h. omega arith), ((λ i h. (h, refl)), ((λ i h. (h, refl)), tt)))))))))))))))))))
+page_sound = ((λ i h. omega arith), ((λ i h. omega arith), ((λ i h. omega arith), ((λ i h. omega arith), ((λ i h. omega arith), ((λ i h. omega arith), ((λ i h. omega arith), ((λ i h. (h, refl)), ((λ i h. (h, refl)), ((λ i h. omega arith), ((λ i h. omega arith), ((λ i h. omega arith), ((λ i h. omega arith), ((λ i h. omega arith), ((λ i h. omega arith), ((λ i h. omega arith), ((λ i h. omega arith), ((λ i h. (h, refl)), ((λ i h. (h, refl)), ((λ i h. (h, refl)), ((λ i h. (h, refl)), ((λ i h. omega arith), ((λ i h. omega arith), ((λ i h. omega arith), ((λ i h. omega arith), ((λ i h. omega arith), ((λ i h. omega arith), ((λ i h. omega arith), ((λ i h. omega arith), tt)))))))))))))))))))))))))))))
 
 -- where nothing stands, the page has nothing
 pub entry_at-nothing : (a : ℕ) → IsInNoRow a → None ≡ entry_at a

@@ -6,7 +6,7 @@ use Rattle.mote_layout.specs.Blocks.{FitsBehind, AreBlocksFrom, AreBlocks, block
 use Rattle.mote_layout.specs.declared.segment.Segment.{Segment}
 
 -- the segment that begins with a block is among the segments, and begins with it
-starting_at-first : (ss : List Segment) (block : ℕ) (s : Segment) → starting_at ss block ≡ Some s → s.first ≡ block
+pub starting_at-first : (ss : List Segment) (block : ℕ) (s : Segment) → starting_at ss block ≡ Some s → s.first ≡ block
 starting_at-first [] block s h = absurd (none-some s h)
 starting_at-first (t ∷ ts) block s h =
     elim (cases_Bool (eqb t.first block)) [
@@ -164,3 +164,7 @@ segment_at-starting_at_from low (t ∷ ts) block s blocks h =
 
 pub segment_at-starting_at : (ss : List Segment) (block : ℕ) (s : Segment) → AreBlocks ss → starting_at ss block ≡ Some s → segment_at ss (block_address block) ≡ Some s
 segment_at-starting_at ss block s blocks h = segment_at-starting_at_from 0 ss block s blocks h
+
+-- a segment in which an address lies may stand in the heap
+pub segment_at-within : (ss : List Segment) (a : ℕ) (s : Segment) → AreBlocks ss → segment_at ss a ≡ Some s → FitsBehind 0 s
+segment_at-within ss a s blocks h = segment_at-fits 0 ss a s blocks h

@@ -1,13 +1,13 @@
 -- The entry page: which entry stands at which program address.
 use Rattle.std.specs.Prelude.{◌≡◌, ℕ, ◌+◌, ◌-◌, ◌<◌, ◌&&◌, nat_le, nat_lt, List, [], ◌∷◌, Option, Some, None, if◌then◌else◌}
 use Rattle.mote_layout.specs.declared.page.Entry.{Entry}
-use Rattle.mote_layout.specs.declared.page.Entry.TheVariants.{StoreX, StoreXInc, StoreXDec, StoreYInc, StoreYDec, StoreZInc, StoreZDec, StoreY, StoreZ, StoreSts, PushGuard, PopGuard, SpGuard, LocalCall, SlotIndirect, Return, Reserve, Kernel, Slot}
+use Rattle.mote_layout.specs.declared.page.Entry.TheVariants.{StoreX, StoreXInc, StoreXDec, StoreYInc, StoreYDec, StoreZInc, StoreZDec, StoreY, StoreZ, StoreSts, LoadX, LoadXInc, LoadXDec, LoadYInc, LoadYDec, LoadZInc, LoadZDec, LoadY, LoadZ, LoadLds, PushGuard, PopGuard, SpGuard, LocalCall, SlotIndirect, Return, Reserve, Kernel, Slot}
 
 -- the first address of the page, above all code of modules
 abbrev pub page_start : ℕ
 page_start = 0xF000
 
--- how many displacements a store to Y + q or Z + q has: six bits (AVR Instruction Set Manual, "STD")
+-- how many displacements a store or load at Y + q or Z + q has: six bits (AVR Instruction Set Manual, "STD" and "LDD")
 abbrev pub displacement_count : ℕ
 displacement_count = 64
 
@@ -30,6 +30,16 @@ StandsAt StoreZDec address = address ≡ 0xF006
 StandsAt (StoreY q) address = (q < displacement_count) × (address ≡ 0xF010 + q)
 StandsAt (StoreZ q) address = (q < displacement_count) × (address ≡ 0xF050 + q)
 StandsAt StoreSts address = address ≡ 0xF090
+StandsAt LoadX address = address ≡ 0xF381
+StandsAt LoadXInc address = address ≡ 0xF382
+StandsAt LoadXDec address = address ≡ 0xF383
+StandsAt LoadYInc address = address ≡ 0xF384
+StandsAt LoadYDec address = address ≡ 0xF385
+StandsAt LoadZInc address = address ≡ 0xF386
+StandsAt LoadZDec address = address ≡ 0xF387
+StandsAt (LoadY q) address = (q < displacement_count) × (address ≡ 0xF300 + q)
+StandsAt (LoadZ q) address = (q < displacement_count) × (address ≡ 0xF340 + q)
+StandsAt LoadLds address = address ≡ 0xF380
 StandsAt PushGuard address = address ≡ 0xF091
 StandsAt PopGuard address = address ≡ 0xF092
 StandsAt SpGuard address = address ≡ 0xF093
@@ -80,6 +90,16 @@ page =
     ∷ row 0xF097 Reserve
     ∷ rows_from 0xF100 kernel_call_count (λ n. Kernel n)
     ∷ rows_from 0xF200 slot_count (λ i. Slot i)
+    ∷ rows_from 0xF300 displacement_count (λ q. LoadY q)
+    ∷ rows_from 0xF340 displacement_count (λ q. LoadZ q)
+    ∷ row 0xF380 LoadLds
+    ∷ row 0xF381 LoadX
+    ∷ row 0xF382 LoadXInc
+    ∷ row 0xF383 LoadXDec
+    ∷ row 0xF384 LoadYInc
+    ∷ row 0xF385 LoadYDec
+    ∷ row 0xF386 LoadZInc
+    ∷ row 0xF387 LoadZDec
     ∷ []
 
 -- the entry of an address among rows

@@ -1,9 +1,10 @@
 //! The laws of the definitions over lists of segments.
 
-ghost use Rattle.std.specs.Prelude.{◌≡◌, ◌≢◌, ℕ, ◌≤◌, ◌↔◌, true, List, ◌∷◌, None, Some, IsSomeAnd};
+ghost use Rattle.std.specs.Prelude.{◌≡◌, ◌≢◌, ℕ, ◌≤◌, ◌↔◌, Bool, true, List, ◌∷◌, None, Some, IsSomeAnd};
 ghost use Rattle.mote_layout.specs.Memory.{kernel};
 ghost use Rattle.mote_layout.specs.Blocks.{AreBlocks, Owns, owns, block_address, segment_at, starting_at, Fits, IsFreeAddress, inserted, without, without_owner, given_to, handed_over};
 ghost use Rattle.mote_layout.specs.Store.{MayStore, may_store};
+ghost use Rattle.mote_layout.specs.Load.{AreConstants, IsConstant, MayLoad, may_load};
 ghost use Rattle.mote_layout.specs.Fit.{IsLeastFit, fit};
 ghost use Rattle.mote_layout.specs.declared.segment.Segment.{Segment};
 
@@ -29,6 +30,15 @@ pub fn blocks_laws()
         → Owns (inserted s ss) owner address ↔ Owns (s ∷ ss) owner address }
     ensures owner_gone { (gone : ℕ) (ss : List Segment) (owner address : ℕ)
         → Owns (without_owner gone ss) owner address ↔ ((owner ≢ gone) × Owns ss owner address) }
+{}
+
+/// Laws of *Permitted load* (`specs/Load.antt`): what its test tells, and where a block of constants is.
+pub fn load_laws()
+    ensures may_load { (ss : List Segment) (domain : ℕ) (frame : Bool) (constants sp bound address : ℕ)
+        → (may_load ss domain frame constants sp bound address ≡ true) ↔ MayLoad ss domain frame constants sp bound address }
+    ensures constants { (ss : List Segment) (constants address : ℕ) → AreBlocks ss
+        → IsConstant ss constants address ↔ IsSomeAnd (segment_at ss address) (λ s. AreConstants constants s) }
+    ensures without_constants { (ss : List Segment) (address : ℕ) → ¬ IsConstant ss 0 address }
 {}
 
 /// Laws of the one segment that begins with a block, by which a map that sets and clears single segments

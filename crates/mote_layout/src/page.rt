@@ -3,7 +3,7 @@
 //! No word is kept there. A call of such an address is done by the kernel in place of a call.
 //! The page is this project's own.
 
-ghost use Rattle.std.specs.Prelude.{◌≡◌, ◌↔◌, None, Some, IfNone, IfSome};
+ghost use Rattle.std.specs.Prelude.{◌≡◌, ◌≤◌, ◌↔◌, None, Some, IfNone, IfSome};
 ghost use Rattle.mote_layout.specs.Page.{StandsAt, IsInNoRow, entry_at, page_start, displacement_count, kernel_call_count, slot_count};
 
 /// The first address of the page. No code of a module reaches it.
@@ -36,7 +36,7 @@ pub const STORE_Y_GUARDS: u16 = 0xF010;
 /// The guard of a store to Z + 0. The guards of the other displacements follow it.
 pub const STORE_Z_GUARDS: u16 = 0xF050;
 
-/// How many displacements a store to Y + q or Z + q can have.
+/// How many displacements a store or load at Y + q or Z + q can have.
 pub const DISPLACEMENTS: u16 = 64;
 
 /// The guard of an STS. Its address is the word after the one at the return place.
@@ -75,6 +75,36 @@ pub const SLOT_ENTRIES: u16 = 0xF200;
 /// How many subscription slots a module has.
 pub const SLOTS: u16 = 16;
 
+/// The guard of a load from Y + 0. The guards of the other displacements follow it.
+pub const LOAD_Y_GUARDS: u16 = 0xF300;
+
+/// The guard of a load from Z + 0. The guards of the other displacements follow it.
+pub const LOAD_Z_GUARDS: u16 = 0xF340;
+
+/// The guard of an LDS. Its address is the word after the one at the return place.
+pub const LOAD_LDS_GUARD: u16 = 0xF380;
+
+/// The guard of a load from X.
+pub const LOAD_X_GUARD: u16 = 0xF381;
+
+/// The guard of a load from X that raises X afterwards.
+pub const LOAD_X_INC_GUARD: u16 = 0xF382;
+
+/// The guard of a load from X that lowers X first.
+pub const LOAD_X_DEC_GUARD: u16 = 0xF383;
+
+/// The guard of a load from Y that raises Y afterwards.
+pub const LOAD_Y_INC_GUARD: u16 = 0xF384;
+
+/// The guard of a load from Y that lowers Y first.
+pub const LOAD_Y_DEC_GUARD: u16 = 0xF385;
+
+/// The guard of a load from Z that raises Z afterwards.
+pub const LOAD_Z_INC_GUARD: u16 = 0xF386;
+
+/// The guard of a load from Z that lowers Z first.
+pub const LOAD_Z_DEC_GUARD: u16 = 0xF387;
+
 const LAST_STORE_Y_GUARD: u16 = STORE_Y_GUARDS + DISPLACEMENTS - 1;
 
 const LAST_STORE_Z_GUARD: u16 = STORE_Z_GUARDS + DISPLACEMENTS - 1;
@@ -82,6 +112,10 @@ const LAST_STORE_Z_GUARD: u16 = STORE_Z_GUARDS + DISPLACEMENTS - 1;
 const LAST_KERNEL_ENTRY: u16 = KERNEL_ENTRIES + KERNEL_CALLS - 1;
 
 const LAST_SLOT_ENTRY: u16 = SLOT_ENTRIES + SLOTS - 1;
+
+const LAST_LOAD_Y_GUARD: u16 = LOAD_Y_GUARDS + DISPLACEMENTS - 1;
+
+const LAST_LOAD_Z_GUARD: u16 = LOAD_Z_GUARDS + DISPLACEMENTS - 1;
 
 /// What stands at an address of the entry page.
 #[derive(Clone, Copy, PartialEq, Eq, Debug)]
@@ -106,6 +140,26 @@ pub enum Entry {
     StoreZ(u8),
     /// The guard of `STS`.
     StoreSts,
+    /// The guard of `LD X`.
+    LoadX,
+    /// The guard of `LD X+`.
+    LoadXInc,
+    /// The guard of `LD -X`.
+    LoadXDec,
+    /// The guard of `LD Y+`.
+    LoadYInc,
+    /// The guard of `LD -Y`.
+    LoadYDec,
+    /// The guard of `LD Z+`.
+    LoadZInc,
+    /// The guard of `LD -Z`.
+    LoadZDec,
+    /// The guard of `LDD Y+q`, with the displacement q.
+    LoadY(u8),
+    /// The guard of `LDD Z+q`, with the displacement q.
+    LoadZ(u8),
+    /// The guard of `LDS`.
+    LoadLds,
     /// The guard of `PUSH`.
     PushGuard,
     /// The guard of `POP`.
@@ -165,7 +219,29 @@ fn row_of(address: u16) -> Option<Entry>
             Some(Entry::Kernel((address - KERNEL_ENTRIES) as u8))
         }
         SLOT_ENTRIES..=LAST_SLOT_ENTRY => Some(Entry::Slot((address - SLOT_ENTRIES) as u8)),
+        LOAD_Y_GUARDS..=LOAD_Z_DEC_GUARD => Some(load_guard(address)),
         _ => None,
+    }
+}
+
+/// The guard of a load, all of which stand side by side.
+fn load_guard(address: u16) -> Entry
+    requires from { LOAD_Y_GUARDS ≤ address }
+    requires to { address ≤ LOAD_Z_DEC_GUARD }
+    ensures { StandsAt result address }
+{
+    match address {
+        LOAD_Y_GUARDS..=LAST_LOAD_Y_GUARD => Entry::LoadY((address - LOAD_Y_GUARDS) as u8),
+        LOAD_Z_GUARDS..=LAST_LOAD_Z_GUARD => Entry::LoadZ((address - LOAD_Z_GUARDS) as u8),
+        LOAD_LDS_GUARD => Entry::LoadLds,
+        LOAD_X_GUARD => Entry::LoadX,
+        LOAD_X_INC_GUARD => Entry::LoadXInc,
+        LOAD_X_DEC_GUARD => Entry::LoadXDec,
+        LOAD_Y_INC_GUARD => Entry::LoadYInc,
+        LOAD_Y_DEC_GUARD => Entry::LoadYDec,
+        LOAD_Z_INC_GUARD => Entry::LoadZInc,
+        LOAD_Z_DEC_GUARD => Entry::LoadZDec,
+        _ => unreachable!(),
     }
 }
 
@@ -183,6 +259,15 @@ pub fn page_is_as_defined()
         × StandsAt (Entry.StoreZ 0) STORE_Z_GUARDS }
     ensures displacements { DISPLACEMENTS ≡ displacement_count }
     ensures stores_to_words { StandsAt Entry.StoreSts STORE_STS_GUARD }
+
+    // The guards of loads, which have the displacements of stores.
+    ensures loads_from_x { StandsAt Entry.LoadX LOAD_X_GUARD × StandsAt Entry.LoadXInc LOAD_X_INC_GUARD
+        × StandsAt Entry.LoadXDec LOAD_X_DEC_GUARD }
+    ensures loads_from_y { StandsAt Entry.LoadYInc LOAD_Y_INC_GUARD × StandsAt Entry.LoadYDec LOAD_Y_DEC_GUARD
+        × StandsAt (Entry.LoadY 0) LOAD_Y_GUARDS }
+    ensures loads_from_z { StandsAt Entry.LoadZInc LOAD_Z_INC_GUARD × StandsAt Entry.LoadZDec LOAD_Z_DEC_GUARD
+        × StandsAt (Entry.LoadZ 0) LOAD_Z_GUARDS }
+    ensures loads_from_words { StandsAt Entry.LoadLds LOAD_LDS_GUARD }
 
     // The guards of the stack.
     ensures stack { StandsAt Entry.PushGuard PUSH_GUARD × StandsAt Entry.PopGuard POP_GUARD

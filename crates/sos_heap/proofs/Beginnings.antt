@@ -5,7 +5,7 @@ use Rattle.std.proofs.lemmas.Option.{none-some, same_Some}
 use Rattle.mote_layout.specs.Blocks.{FitsBehind, AreBlocksFrom, AreBlocks, block_address, block_of, covers, segment_at, starting_at}
 use Rattle.mote_layout.specs.declared.segment.Segment.{Segment}
 use Rattle.mote_layout.proofs.Owners.{covers-true, covers-false}
-use Rattle.mote_layout.proofs.OneSegment.{starting_at-fits, starting_at-segment_at}
+use Rattle.mote_layout.proofs.OneSegment.{starting_at-fits}
 use Rattle.sos_heap.specs.Requests.{beginning_at}
 
 -- no segment behind a block begins at an address below it
@@ -79,7 +79,3 @@ begins_at ss a s blocks h =
     let address = beginning_at-first ss a s h in
     let starts : starting_at ss s.first ≡ Some s = sym (beginning_at-starting_at ss s.first) ∙ ap (λ k. beginning_at ss k) address ∙ h in
     record { address = address; block = omega (arith, address); starts = starts; fits = starting_at-fits 0 ss s.first s blocks starts }
-
--- a segment in which an address lies begins within the heap
-pub segment_at-within : (ss : List Segment) (a : ℕ) (s : Segment) → AreBlocks ss → segment_at ss a ≡ Some s → FitsBehind 0 s
-segment_at-within ss a s blocks h = starting_at-fits 0 ss s.first s blocks (starting_at-segment_at ss a s blocks h)

@@ -7,8 +7,8 @@ use Rattle.mote_layout.specs.Fit.{blocks_for}
 use Rattle.mote_layout.specs.declared.segment.Segment.{Segment}
 use Rattle.mote_layout.proofs.BlockLists.{AreBlocks-inserted, AreBlocks-without, AreBlocks-handed_over}
 use Rattle.sos_heap.specs.Requests.{place_for, segment_for, served, beginning_at}
-use Rattle.sos_heap.specs.Parcels.{Payload, IsParcelOf}
-use Rattle.sos_heap.specs.Kernel.{kernel_entries, naming, KernelStays, KernelGains, KernelLoses}
+use Rattle.mote_layout.specs.Parcels.{Payload, IsParcelOf}
+use Rattle.mote_layout.specs.Parcels.{kernel_entries, naming, KernelStays, KernelGains, KernelLoses}
 use Rattle.sos_heap.proofs.Beginnings.{begins_at}
 use Rattle.sos_heap.proofs.Changes.{IsChangedAt, without-changed, inserted-changed, handed_over-changed, starting_at-free}
 use Rattle.sos_heap.proofs.Places.{placed}

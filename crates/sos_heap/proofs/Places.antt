@@ -3,11 +3,11 @@ use Rattle.std.proofs.Common.{◌≡◌, ℕ, ◌+◌, ◌-◌, ◌<◌, ◌≤�
 use Rattle.std.proofs.lemmas.Bool.{cond-true, cond-false, cases_Bool, cases_lt, cases_eq, eqb-true, eqb-false}
 use Rattle.std.proofs.lemmas.Option.{none-some}
 use Rattle.mote_layout.specs.Memory.{block_count}
-use Rattle.mote_layout.specs.Blocks.{AreBlocksFrom, AreBlocks, AreFree, Fits}
+use Rattle.mote_layout.specs.Blocks.{AreBlocksFrom, AreBlocks, AreFree, Fits, block_address}
 use Rattle.mote_layout.specs.Fit.{blocks_for, fit}
 use Rattle.mote_layout.specs.declared.segment.Segment.{Segment}
 use Rattle.mote_layout.proofs.LeastFit.{fit-some, fit-none}
-use Rattle.sos_heap.specs.Requests.{place_for, HasNoPlace}
+use Rattle.sos_heap.specs.Requests.{place_for, HasNoPlace, LiesInHeap}
 
 -- What is known of the place of a request.
 pub record IsPlace (ss : List Segment) (size block : ℕ) : Type 0 where
@@ -40,6 +40,10 @@ pub a_place : (ss : List Segment) (size block : ℕ) → place_for ss size ≡ S
 a_place ss size block h none =
     let place = placed ss size block h in
     elim none as (λ _. ⊥) [ inl e ↦ omega (arith, e, place.some) | inr nowhere ↦ nowhere block place.fits ]
+
+-- the blocks of a request are blocks of the heap
+pub lies_at : (block size a : ℕ) → block + blocks_for size ≤ block_count → a ≡ block_address block → LiesInHeap size a
+lies_at block size a fits at = (omega (arith, at), omega (arith, at, fits))
 
 -- each block of free blocks is free
 AreFree-one : (ss : List Segment) (first count block : ℕ) → first ≤ block → block < first + count → AreFree ss first count → AreFree ss block 1

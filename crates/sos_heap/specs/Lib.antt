@@ -1,3 +1,1 @@
-pub mod Kernel
-pub mod Parcels
 pub mod Requests

@@ -1,10 +1,11 @@
 -- Requests for bytes of the heap, and the blocks that the calls name by an address. What is given out as one is
 -- one segment of the list, of as many blocks as hold the bytes asked for.
-use Rattle.std.specs.Prelude.{◌≡◌, ℕ, ◌==◌, ◌*◌, ◌≤◌, ◌⊎◌, List, Option, None, find, option_map, IsSomeAnd, if◌then◌else◌}
+use Rattle.std.specs.Prelude.{◌≡◌, ℕ, ◌==◌, ◌+◌, ◌*◌, ◌≤◌, ◌⊎◌, List, Option, None, find, option_map, IsSomeAnd, if◌then◌else◌}
 use Rattle.std.specs.Option.{option_map_or}
-use Rattle.mote_layout.specs.Memory.{block_bytes}
+use Rattle.mote_layout.specs.Memory.{block_bytes, heap_start, heap_end}
 use Rattle.mote_layout.specs.Blocks.{block_address, Fits, inserted}
 use Rattle.mote_layout.specs.Fit.{blocks_for, fit}
+use Rattle.mote_layout.specs.Parcels.{Payload}
 use Rattle.mote_layout.specs.declared.segment.Segment.{Segment}
 
 -- the first block of a request for so many bytes: the least fit for its blocks; none for a request of 0 bytes
@@ -18,6 +19,14 @@ HasNoPlace ss size = (size ≡ 0) ⊎ ((block : ℕ) → ¬ Fits ss block (block
 -- the address of a request for so many bytes
 abbrev pub address_for : List Segment → ℕ → Option ℕ
 address_for ss size = option_map (λ block. block_address block) (place_for ss size)
+
+-- The blocks of a request for so many bytes that is placed at an address are blocks of the heap.
+abbrev pub LiesInHeap : ℕ → ℕ → Type 0
+LiesInHeap size address = (heap_start ≤ address) × (address + block_bytes * blocks_for size ≤ heap_end + 1)
+
+-- the payload of a request for so many bytes
+abbrev pub payload_for : List Segment → ℕ → Option Payload
+payload_for ss size = option_map (λ (block : ℕ). record { block = block; len = size }) (place_for ss size)
 
 -- the segment of a request for so many bytes that begins with a block
 abbrev pub segment_for : ℕ → ℕ → ℕ → Segment

@@ -1,6 +1,6 @@
 //! Where a request is placed.
 
-ghost use Rattle.std.specs.Prelude.{◌≡◌, ◌≤◌, IfSome};
+ghost use Rattle.std.specs.Prelude.{◌≡◌, ◌≤◌};
 ghost use Rattle.mote_layout.specs.Blocks.{AreBlocks};
 ghost use Rattle.mote_layout.specs.Fit.{fit};
 ghost use Rattle.sos_heap.specs.Requests.{place_for, served};
@@ -11,10 +11,11 @@ use mote_layout::{BLOCK_BYTES, BLOCKS, KERNEL};
 
 /// Gives an owner the blocks of a request for `size` bytes, and answers the first of them.
 pub fn serve(map: &mut MemoryMap, size: u16, owner: u8) -> Option<u16>
-    requires { owner ≤ KERNEL }
+    requires owner { owner ≤ KERNEL }
+    requires blocks { AreBlocks map.old }
     ensures place { result ≡ place_for map.old size }
     ensures served { map.new ≡ served owner size map.old }
-    ensures blocks { IfSome result (λ _. AreBlocks map.old) }
+    ensures blocks { AreBlocks map.new }
 {
     if size == 0 {
         return None;

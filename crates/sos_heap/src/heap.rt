@@ -1,18 +1,18 @@
 //! The heap and its calls.
 
-ghost use Rattle.std.specs.Prelude.{◌≡◌, ◌<◌, ◌↔◌, [], None, IfOk, OnOk, OnErr, IsErr, MatchOption};
+ghost use Rattle.std.specs.Prelude.{◌≡◌, ◌<◌, ◌↔◌, [], None, IfOk, IfSome, OnOk, OnErr, IsErr, IsTrue, MatchOption};
 ghost use Rattle.mote_layout.specs.Memory.{kernel};
-ghost use Rattle.mote_layout.specs.Blocks.{block_address, block_of, without, without_owner, handed_over};
-ghost use Rattle.sos_heap.specs.Requests.{address_for, HasNoPlace, served, Holds, HoldsBytes};
-ghost use Rattle.sos_heap.specs.Parcels.{IsParcelOf, payload_for};
-ghost use Rattle.sos_heap.specs.Kernel.{KernelStays, KernelGains, KernelLoses};
+ghost use Rattle.mote_layout.specs.Blocks.{AreBlocks, block_address, block_of, without, without_owner, handed_over};
+ghost use Rattle.sos_heap.specs.Requests.{address_for, HasNoPlace, LiesInHeap, payload_for, served, Holds, HoldsBytes};
+ghost use Rattle.mote_layout.specs.Parcels.{IsParcelOf};
+ghost use Rattle.mote_layout.specs.Parcels.{KernelStays, KernelGains, KernelLoses};
 
 use crate::Parcel;
 use crate::fit::serve;
-use crate::held::{NotOwner, address_of, beginning_at, clear_owner, hand_over, held};
+use crate::held::{NotOwner, beginning_at, clear_owner, hand_over, held, held_bytes};
 use memory_map::MemoryMap;
 use mote_base::NoMemory;
-use mote_layout::{BLOCK_BYTES, DOMAINS, KERNEL};
+use mote_layout::{DOMAINS, KERNEL, block_address};
 use std::alloc::Global;
 use std::marker::Model;
 
@@ -24,11 +24,14 @@ pub struct Heap {
 
 impl Model for Heap {
     ghost use Rattle.std.specs.Prelude.{List};
+    ghost use Rattle.mote_layout.specs.Blocks.{AreBlocks};
     ghost use Rattle.mote_layout.specs.declared.segment.Segment.{Segment};
 
     ghost Value = { List Segment };
 
     ghost view = { λ h. h.map };
+
+    ghost invariant = { λ h. AreBlocks h.map };
 }
 
 impl Heap {
@@ -46,18 +49,22 @@ impl Heap {
         requires domain { d < DOMAINS }
         ensures address { result ≡ address_for self.old size }
         ensures none { (result ≡ None) ↔ HasNoPlace self.old size }
+        ensures within { IfSome result (λ a. LiesInHeap size a) }
         ensures given { self.new ≡ served d size self.old }
+        ensures blocks { AreBlocks self.old × AreBlocks self.new }
         ensures kernel { KernelStays self.old self.new }
     {
         let block = serve(&mut self.map, size, d)?;
-        Some(address_of(block))
+        Some(block_address(block))
     }
 
     /// Gives the kernel a block for `size` bytes, as a parcel of that length: None as in `give`.
     pub fn issue(&mut self, size: u16) -> Option<Parcel>
         ensures parcel { result ≡ payload_for self.old size }
         ensures none { (result ≡ None) ↔ HasNoPlace self.old size }
+        ensures within { IfSome result (λ p. LiesInHeap size (block_address p.block)) }
         ensures issued { self.new ≡ served kernel size self.old }
+        ensures blocks { AreBlocks self.old × AreBlocks self.new }
         ensures kernel { MatchOption result (KernelStays self.old self.new) (λ p. KernelGains p self.old self.new) }
     {
         let block = serve(&mut self.map, size, KERNEL)?;
@@ -68,8 +75,10 @@ impl Heap {
     pub fn release(&mut self, d: u8, a: u16) -> Result<(), NotOwner>
         requires domain { d < DOMAINS }
         ensures refused { IsErr result ↔ (¬ Holds self.old d a) }
+        ensures held { OnOk result (Holds self.old d a) }
         ensures released { OnOk result (self.new ≡ without (block_of a) self.old) }
         ensures unchanged { OnErr result (self.new ≡ self.old) }
+        ensures blocks { AreBlocks self.old × AreBlocks self.new }
         ensures kernel { KernelStays self.old self.new }
     {
         let segment = held(&self.map, d, a)?;
@@ -82,8 +91,10 @@ impl Heap {
         requires domain { d < DOMAINS }
         requires to { to < DOMAINS }
         ensures refused { IsErr result ↔ (¬ Holds self.old d a) }
+        ensures held { OnOk result (Holds self.old d a) }
         ensures changed { OnOk result (self.new ≡ handed_over (block_of a) to self.old) }
         ensures unchanged { OnErr result (self.new ≡ self.old) }
+        ensures blocks { AreBlocks self.old × AreBlocks self.new }
         ensures kernel { KernelStays self.old self.new }
     {
         let segment = held(&self.map, d, a)?;
@@ -95,15 +106,14 @@ impl Heap {
     pub fn lift(&mut self, d: u8, a: u16, len: u16) -> Result<Parcel, NotOwner>
         requires domain { d < DOMAINS }
         ensures refused { IsErr result ↔ (¬ HoldsBytes self.old d a len) }
+        ensures held { OnOk result (HoldsBytes self.old d a len) }
         ensures parcel { IfOk result (λ p. (block_address p.block ≡ a) × (p.len ≡ len)) }
         ensures lifted { IfOk result (λ p. self.new ≡ handed_over p.block kernel self.old) }
         ensures unchanged { OnErr result (self.new ≡ self.old) }
+        ensures blocks { AreBlocks self.old × AreBlocks self.new }
         ensures kernel { IfOk result (λ p. KernelGains p self.old self.new) }
     {
-        let segment = held(&self.map, d, a)?;
-        if BLOCK_BYTES * segment.count < len {
-            return Err(NotOwner);
-        }
+        let segment = held_bytes(&self.map, d, a, len)?;
         hand_over(&mut self.map, segment, KERNEL);
         Ok(Parcel::new(segment.first, len))
     }
@@ -114,6 +124,7 @@ impl Heap {
         requires domain { d < DOMAINS }
         ensures address { result ≡ block_address p.block }
         ensures settled { self.new ≡ handed_over p.block d self.old }
+        ensures blocks { AreBlocks self.old × AreBlocks self.new }
         ensures kernel { KernelLoses p self.old self.new }
     {
         let address = p.addr();
@@ -128,6 +139,7 @@ impl Heap {
     pub fn scrap(&mut self, p: Parcel)
         requires parcel { IsParcelOf self.old p }
         ensures scrapped { self.new ≡ without p.block self.old }
+        ensures blocks { AreBlocks self.old × AreBlocks self.new }
         ensures kernel { KernelLoses p self.old self.new }
     {
         self.map.clear_segment(p.block());
@@ -137,14 +149,24 @@ impl Heap {
     pub fn purge(&mut self, d: u8)
         requires domain { d < DOMAINS }
         ensures purged { self.new ≡ without_owner d self.old }
+        ensures blocks { AreBlocks self.old × AreBlocks self.new }
         ensures kernel { KernelStays self.old self.new }
     {
         clear_owner(&mut self.map, d);
     }
 
+    /// Whether what a domain has begins at an address and has at least `len` bytes. It changes nothing.
+    pub fn holds(&self, d: u8, a: u16, len: u16) -> bool
+        ensures held { IsTrue result ↔ HoldsBytes self.now d a len }
+        ensures blocks { AreBlocks self.now }
+    {
+        held_bytes(&self.map, d, a, len).is_ok()
+    }
+
     /// The map of these blocks.
     pub fn map(&self) -> &MemoryMap
         ensures map { result.now ≡ self.now }
+        ensures blocks { AreBlocks result.now }
     {
         &self.map
     }

@@ -14,8 +14,6 @@ mod fit;
 mod heap;
 mod held;
 mod parcel;
-#[cfg(test)]
-mod tests;
 
 pub use heap::Heap;
 pub use held::NotOwner;

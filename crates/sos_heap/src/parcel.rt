@@ -3,8 +3,7 @@
 ghost use Rattle.std.specs.Prelude.{◌≡◌, ◌<◌};
 ghost use Rattle.mote_layout.specs.Blocks.{block_address};
 
-use crate::held::address_of;
-use mote_layout::BLOCKS;
+use mote_layout::{BLOCKS, block_address};
 use std::marker::Model;
 
 /// A block that the kernel keeps for someone, with the number of bytes that count.
@@ -20,7 +19,7 @@ pub struct Parcel {
 impl Model for Parcel {
     ghost use Rattle.std.specs.Prelude.{◌<◌};
     ghost use Rattle.mote_layout.specs.Memory.{block_count};
-    ghost use Rattle.sos_heap.specs.Parcels.{Payload};
+    ghost use Rattle.mote_layout.specs.Parcels.{Payload};
 
     ghost Value = { Payload };
 
@@ -50,7 +49,7 @@ impl Parcel {
     pub fn addr(&self) -> u16
         ensures address { result ≡ block_address self.now.block }
     {
-        address_of(self.block)
+        block_address(self.block)
     }
 
     /// How many bytes it has.

@@ -10,7 +10,7 @@ use Rattle.sos_heap.proofs.held.clear_owner.Goals.{in-Ok, in_default}
 
 pub clear_segment-requires : goal.clear_segment-requires
 clear_segment-requires c =
-    rw (begins_at c.loop-block.map c.address_of.result c.in-Ok.segment c.in-Ok.ensures.blocks c.in-Ok.ensures.held.0).starts refl
+    rw (begins_at c.loop-block.map c.block_address.result c.in-Ok.segment c.in-Ok.ensures.blocks c.in-Ok.ensures.held.0).starts refl
 
 pub loop-block-preserved : goal.loop-block-preserved
 loop-block-preserved c =
@@ -19,12 +19,12 @@ loop-block-preserved c =
     elim c.match-held.branch [
       | in-Ok w ↦
           let s = w.in-Ok.segment in
-          let begins : beginning_at now (block_address c.loop-block.block) ≡ Some s = rw (← c.address_of.ensures) w.in-Ok.ensures.held.0 in
+          let begins : beginning_at now (block_address c.loop-block.block) ≡ Some s = rw (← c.block_address.ensures) w.in-Ok.ensures.held.0 in
           let after : AreBlocks (without s.first now) = rw (← w.clear_segment.ensures.cleared) w.clear_segment.ensures.blocks.1 in
           rw (w.map-is, w.clear_segment.ensures.cleared)
           (purge_taken c.args.d old now c.loop-block.block s w.in-Ok.ensures.blocks after c.loop-block.invariant begins w.in-Ok.ensures.held.1)
       | in_default w ↦
-          let nothing : ¬ Holds now c.args.d (block_address c.loop-block.block) = rw (← c.address_of.ensures) w.in_default.ensures.held in
+          let nothing : ¬ Holds now c.args.d (block_address c.loop-block.block) = rw (← c.block_address.ensures) w.in_default.ensures.held in
           rw w.map-is (purge_passed c.args.d old now c.loop-block.block c.held.ensures.blocks c.loop-block.invariant nothing)
     ]
 

@@ -1,7 +1,7 @@
 -- The parcel's entry is gone.
 use Rattle.std.proofs.Common.{◌≡◌, ap, ◌∙◌}
 use Rattle.mote_layout.specs.Blocks.{without}
-use Rattle.sos_heap.specs.Parcels.{IsParcelOf}
+use Rattle.mote_layout.specs.Parcels.{IsParcelOf}
 use Rattle.sos_heap.proofs.Entries.{without_loses}
 use Rattle.sos_heap.proofs.heap.Heap.scrap.Goals as goal
 

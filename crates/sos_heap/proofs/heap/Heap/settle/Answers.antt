@@ -1,7 +1,7 @@
 -- The parcel's entry is the one that begins at its address.
 use Rattle.std.proofs.Common.{◌≡◌, Some, sym, ap, ◌∙◌, arith}
 use Rattle.mote_layout.specs.Blocks.{starting_at, handed_over}
-use Rattle.sos_heap.specs.Parcels.{IsParcelOf}
+use Rattle.mote_layout.specs.Parcels.{IsParcelOf}
 use Rattle.sos_heap.proofs.Beginnings.{begins_at}
 use Rattle.sos_heap.proofs.Entries.{handed_over_loses}
 use Rattle.sos_heap.proofs.heap.Heap.settle.Goals as goal
