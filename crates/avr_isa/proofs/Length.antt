@@ -1,7 +1,6 @@
 -- How many words a line's instruction has.
-use Rattle.std.proofs.Common.{◌≡◌, ℕ, zero, suc, List, [], ◌∷◌, Option, Some, None, Result, Ok, Err, ap, sym, subst, refl, ◌∙◌}
+use Rattle.std.proofs.Common.{◌≡◌, ℕ, zero, suc, List, [], ◌∷◌, Option, Some, Result, Ok, Err, ap, sym, subst, refl, ◌∙◌}
 use Rattle.std.specs.Prelude.{slice_get, IfOk}
-use Rattle.avr_isa.specs.Pattern.{operand}
 use Rattle.avr_isa.specs.Table.{Line, Form, one_word, two_words, table, HasLine, Reads, Row, word_count, IsDecoded}
 use Rattle.avr_isa.specs.Place.{second_word}
 use Rattle.avr_isa.specs.declared.instruction.Instr.{Instr}

@@ -91,6 +91,6 @@ pub(crate) fn branch_offset(word: u16) -> i8
     if offset < 64 {
         offset as i8
     } else {
-        (offset as i16 - 128) as i8
+        (i16::from(offset) - 128) as i8
     }
 }

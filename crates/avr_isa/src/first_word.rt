@@ -9,6 +9,7 @@ use crate::fields::{
     register, second_register, upper_pair, upper_register,
 };
 use crate::instruction::Instr;
+use crate::opcode;
 
 /// What a first word is.
 #[derive(Clone, Copy)]
@@ -42,8 +43,8 @@ impl Long {
         match self {
             Long::Load(d) => Instr::Lds(d, second),
             Long::Store(r) => Instr::Sts(r, second),
-            Long::Jump(high) => Instr::Jmp((high as u32) * 65_536 + second as u32),
-            Long::Call(high) => Instr::Call((high as u32) * 65_536 + second as u32),
+            Long::Jump(high) => Instr::Jmp(u32::from(high) * 65_536 + u32::from(second)),
+            Long::Call(high) => Instr::Call(u32::from(high) * 65_536 + u32::from(second)),
         }
     }
 }
@@ -53,17 +54,17 @@ pub(crate) fn first_word(word: u16) -> FirstWord
     ensures { IsFirstWord word result }
 {
     match bits(word, 12, 4) {
-        3 => FirstWord::Whole(Instr::Cpi(upper_register(word), constant(word))),
-        4 => FirstWord::Whole(Instr::Sbci(upper_register(word), constant(word))),
-        5 => FirstWord::Whole(Instr::Subi(upper_register(word), constant(word))),
-        6 => FirstWord::Whole(Instr::Ori(upper_register(word), constant(word))),
-        7 => FirstWord::Whole(Instr::Andi(upper_register(word), constant(word))),
+        opcode::CPI => FirstWord::Whole(Instr::Cpi(upper_register(word), constant(word))),
+        opcode::SBCI => FirstWord::Whole(Instr::Sbci(upper_register(word), constant(word))),
+        opcode::SUBI => FirstWord::Whole(Instr::Subi(upper_register(word), constant(word))),
+        opcode::ORI => FirstWord::Whole(Instr::Ori(upper_register(word), constant(word))),
+        opcode::ANDI => FirstWord::Whole(Instr::Andi(upper_register(word), constant(word))),
         8 | 10 => FirstWord::Whole(displaced(word)),
         9 => begins_with_nine(word),
         11 => FirstWord::Whole(port_access(word)),
-        12 => FirstWord::Whole(Instr::Rjmp(jump_offset(word))),
-        13 => FirstWord::Whole(Instr::Rcall(jump_offset(word))),
-        14 => FirstWord::Whole(Instr::Ldi(upper_register(word), constant(word))),
+        opcode::RJMP => FirstWord::Whole(Instr::Rjmp(jump_offset(word))),
+        opcode::RCALL => FirstWord::Whole(Instr::Rcall(jump_offset(word))),
+        opcode::LDI => FirstWord::Whole(Instr::Ldi(upper_register(word), constant(word))),
         15 => begins_with_fifteen(word),
         _ => of_two_registers(word),
     }
@@ -78,16 +79,16 @@ fn of_two_registers(word: u16) -> FirstWord
     let r = second_register(word);
     match bits(word, 10, 6) {
         0 => begins_with_six_zeros(word),
-        1 => FirstWord::Whole(Instr::Cpc(d, r)),
-        2 => FirstWord::Whole(Instr::Sbc(d, r)),
-        3 => FirstWord::Whole(Instr::Add(d, r)),
-        4 => FirstWord::Whole(Instr::Cpse(d, r)),
-        5 => FirstWord::Whole(Instr::Cp(d, r)),
-        6 => FirstWord::Whole(Instr::Sub(d, r)),
-        7 => FirstWord::Whole(Instr::Adc(d, r)),
-        8 => FirstWord::Whole(Instr::And(d, r)),
-        9 => FirstWord::Whole(Instr::Eor(d, r)),
-        10 => FirstWord::Whole(Instr::Or(d, r)),
+        opcode::CPC => FirstWord::Whole(Instr::Cpc(d, r)),
+        opcode::SBC => FirstWord::Whole(Instr::Sbc(d, r)),
+        opcode::ADD => FirstWord::Whole(Instr::Add(d, r)),
+        opcode::CPSE => FirstWord::Whole(Instr::Cpse(d, r)),
+        opcode::CP => FirstWord::Whole(Instr::Cp(d, r)),
+        opcode::SUB => FirstWord::Whole(Instr::Sub(d, r)),
+        opcode::ADC => FirstWord::Whole(Instr::Adc(d, r)),
+        opcode::AND => FirstWord::Whole(Instr::And(d, r)),
+        opcode::EOR => FirstWord::Whole(Instr::Eor(d, r)),
+        opcode::OR => FirstWord::Whole(Instr::Or(d, r)),
         _ => FirstWord::Whole(Instr::Mov(d, r)),
     }
 }
@@ -105,8 +106,8 @@ fn begins_with_six_zeros(word: u16) -> FirstWord
                 FirstWord::Undefined
             }
         }
-        1 => FirstWord::Whole(Instr::Movw(2 * bits(word, 4, 4), 2 * bits(word, 0, 4))),
-        2 => FirstWord::Whole(Instr::Muls(16 + bits(word, 4, 4), 16 + bits(word, 0, 4))),
+        opcode::MOVW => FirstWord::Whole(Instr::Movw(2 * bits(word, 4, 4), 2 * bits(word, 0, 4))),
+        opcode::MULS => FirstWord::Whole(Instr::Muls(16 + bits(word, 4, 4), 16 + bits(word, 0, 4))),
         _ => FirstWord::Whole(product_of_middle_registers(word)),
     }
 }
@@ -148,9 +149,9 @@ fn begins_with_nine(word: u16) -> FirstWord
     ensures { IsFirstWord word result }
 {
     match bits(word, 9, 7) {
-        72 => load(word),
-        73 => store(word),
-        74 => of_one_register(word),
+        opcode::LOAD => load(word),
+        opcode::STORE => store(word),
+        opcode::ONE_REGISTER => of_one_register(word),
         _ => FirstWord::Whole(of_small_constant(word)),
     }
 }
@@ -162,19 +163,19 @@ fn load(word: u16) -> FirstWord
 {
     let d = register(word);
     match bits(word, 0, 4) {
-        0 => FirstWord::Begun(Long::Load(d)),
-        1 => FirstWord::Whole(Instr::LdZInc(d)),
-        2 => FirstWord::Whole(Instr::LdZDec(d)),
-        4 => FirstWord::Whole(Instr::LpmZ(d)),
-        5 => FirstWord::Whole(Instr::LpmZInc(d)),
-        6 => FirstWord::Whole(Instr::ElpmZ(d)),
-        7 => FirstWord::Whole(Instr::ElpmZInc(d)),
-        9 => FirstWord::Whole(Instr::LdYInc(d)),
-        10 => FirstWord::Whole(Instr::LdYDec(d)),
-        12 => FirstWord::Whole(Instr::LdX(d)),
-        13 => FirstWord::Whole(Instr::LdXInc(d)),
-        14 => FirstWord::Whole(Instr::LdXDec(d)),
-        15 => FirstWord::Whole(Instr::Pop(d)),
+        opcode::FAR => FirstWord::Begun(Long::Load(d)),
+        opcode::Z_INC => FirstWord::Whole(Instr::LdZInc(d)),
+        opcode::Z_DEC => FirstWord::Whole(Instr::LdZDec(d)),
+        opcode::LPM_Z => FirstWord::Whole(Instr::LpmZ(d)),
+        opcode::LPM_Z_INC => FirstWord::Whole(Instr::LpmZInc(d)),
+        opcode::ELPM_Z => FirstWord::Whole(Instr::ElpmZ(d)),
+        opcode::ELPM_Z_INC => FirstWord::Whole(Instr::ElpmZInc(d)),
+        opcode::Y_INC => FirstWord::Whole(Instr::LdYInc(d)),
+        opcode::Y_DEC => FirstWord::Whole(Instr::LdYDec(d)),
+        opcode::X => FirstWord::Whole(Instr::LdX(d)),
+        opcode::X_INC => FirstWord::Whole(Instr::LdXInc(d)),
+        opcode::X_DEC => FirstWord::Whole(Instr::LdXDec(d)),
+        opcode::STACK => FirstWord::Whole(Instr::Pop(d)),
         _ => FirstWord::Undefined,
     }
 }
@@ -186,15 +187,15 @@ fn store(word: u16) -> FirstWord
 {
     let r = register(word);
     match bits(word, 0, 4) {
-        0 => FirstWord::Begun(Long::Store(r)),
-        1 => FirstWord::Whole(Instr::StZInc(r)),
-        2 => FirstWord::Whole(Instr::StZDec(r)),
-        9 => FirstWord::Whole(Instr::StYInc(r)),
-        10 => FirstWord::Whole(Instr::StYDec(r)),
-        12 => FirstWord::Whole(Instr::StX(r)),
-        13 => FirstWord::Whole(Instr::StXInc(r)),
-        14 => FirstWord::Whole(Instr::StXDec(r)),
-        15 => FirstWord::Whole(Instr::Push(r)),
+        opcode::FAR => FirstWord::Begun(Long::Store(r)),
+        opcode::Z_INC => FirstWord::Whole(Instr::StZInc(r)),
+        opcode::Z_DEC => FirstWord::Whole(Instr::StZDec(r)),
+        opcode::Y_INC => FirstWord::Whole(Instr::StYInc(r)),
+        opcode::Y_DEC => FirstWord::Whole(Instr::StYDec(r)),
+        opcode::X => FirstWord::Whole(Instr::StX(r)),
+        opcode::X_INC => FirstWord::Whole(Instr::StXInc(r)),
+        opcode::X_DEC => FirstWord::Whole(Instr::StXDec(r)),
+        opcode::STACK => FirstWord::Whole(Instr::Push(r)),
         _ => FirstWord::Undefined,
     }
 }
@@ -206,16 +207,16 @@ fn of_one_register(word: u16) -> FirstWord
 {
     let d = register(word);
     match bits(word, 0, 4) {
-        0 => FirstWord::Whole(Instr::Com(d)),
-        1 => FirstWord::Whole(Instr::Neg(d)),
-        2 => FirstWord::Whole(Instr::Swap(d)),
-        3 => FirstWord::Whole(Instr::Inc(d)),
-        5 => FirstWord::Whole(Instr::Asr(d)),
-        6 => FirstWord::Whole(Instr::Lsr(d)),
-        7 => FirstWord::Whole(Instr::Ror(d)),
-        8 => control(word),
-        9 => indirect(word),
-        10 => FirstWord::Whole(Instr::Dec(d)),
+        opcode::COM => FirstWord::Whole(Instr::Com(d)),
+        opcode::NEG => FirstWord::Whole(Instr::Neg(d)),
+        opcode::SWAP => FirstWord::Whole(Instr::Swap(d)),
+        opcode::INC => FirstWord::Whole(Instr::Inc(d)),
+        opcode::ASR => FirstWord::Whole(Instr::Asr(d)),
+        opcode::LSR => FirstWord::Whole(Instr::Lsr(d)),
+        opcode::ROR => FirstWord::Whole(Instr::Ror(d)),
+        opcode::CONTROL => control(word),
+        opcode::INDIRECT => indirect(word),
+        opcode::DEC => FirstWord::Whole(Instr::Dec(d)),
         12 | 13 => FirstWord::Begun(Long::Jump(high_address(word))),
         14 | 15 => FirstWord::Begun(Long::Call(high_address(word))),
         _ => FirstWord::Undefined,
@@ -271,12 +272,12 @@ fn of_small_constant(word: u16) -> Instr
     let bit = bits(word, 0, 3);
     let low_port = bits(word, 3, 5);
     match bits(word, 8, 8) {
-        0x96 => Instr::Adiw(upper_pair(word), pair_constant(word)),
-        0x97 => Instr::Sbiw(upper_pair(word), pair_constant(word)),
-        0x98 => Instr::Cbi(low_port, bit),
-        0x99 => Instr::Sbic(low_port, bit),
-        0x9A => Instr::Sbi(low_port, bit),
-        0x9B => Instr::Sbis(low_port, bit),
+        opcode::ADIW => Instr::Adiw(upper_pair(word), pair_constant(word)),
+        opcode::SBIW => Instr::Sbiw(upper_pair(word), pair_constant(word)),
+        opcode::CBI => Instr::Cbi(low_port, bit),
+        opcode::SBIC => Instr::Sbic(low_port, bit),
+        opcode::SBI => Instr::Sbi(low_port, bit),
+        opcode::SBIS => Instr::Sbis(low_port, bit),
         _ => Instr::Mul(register(word), second_register(word)),
     }
 }
@@ -286,7 +287,7 @@ fn port_access(word: u16) -> Instr
     requires { word / 2 ^ 12 % 2 ^ 4 ≡ 11 }
     ensures { IsWordOf word result }
 {
-    if bits(word, 11, 5) == 22 {
+    if bits(word, 11, 5) == opcode::IN {
         Instr::In(register(word), port(word))
     } else {
         Instr::Out(register(word), port(word))
@@ -299,8 +300,8 @@ fn begins_with_fifteen(word: u16) -> FirstWord
     ensures { IsFirstWord word result }
 {
     match bits(word, 10, 6) {
-        60 => FirstWord::Whole(Instr::Brbs(bits(word, 0, 3), branch_offset(word))),
-        61 => FirstWord::Whole(Instr::Brbc(bits(word, 0, 3), branch_offset(word))),
+        opcode::BRBS => FirstWord::Whole(Instr::Brbs(bits(word, 0, 3), branch_offset(word))),
+        opcode::BRBC => FirstWord::Whole(Instr::Brbc(bits(word, 0, 3), branch_offset(word))),
         _ => of_a_register_bit(word),
     }
 }
@@ -316,9 +317,9 @@ fn of_a_register_bit(word: u16) -> FirstWord
     let register = register(word);
     let bit = bits(word, 0, 3);
     FirstWord::Whole(match bits(word, 9, 7) {
-        124 => Instr::Bld(register, bit),
-        125 => Instr::Bst(register, bit),
-        126 => Instr::Sbrc(register, bit),
+        opcode::BLD => Instr::Bld(register, bit),
+        opcode::BST => Instr::Bst(register, bit),
+        opcode::SBRC => Instr::Sbrc(register, bit),
         _ => Instr::Sbrs(register, bit),
     })
 }

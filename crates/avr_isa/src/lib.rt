@@ -13,6 +13,7 @@ mod first_word;
 mod formats;
 mod instruction;
 mod laws;
+mod opcode;
 
 pub use decoding::decode;
 pub use encoding::encode;

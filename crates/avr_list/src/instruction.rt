@@ -53,7 +53,7 @@ pub fn add_instruction(line: &mut Line, instruction: &Instr)
     }
 }
 
-// The loads and stores, and what comes later.
+/// The loads and stores, and what comes later.
 fn add_from_loads(line: &mut Line, instruction: &Instr)
     requires room { array_vec_len line.old + unit_width ≤ line_bytes }
     requires text { HasText instruction.now }
@@ -86,7 +86,7 @@ fn add_from_loads(line: &mut Line, instruction: &Instr)
     }
 }
 
-// The operations on one register, on a flag, a port or a bit, and what else comes later in the table.
+/// The operations on one register, on a flag, a port or a bit, and what else comes later in the table.
 fn add_from_one_register(line: &mut Line, instruction: &Instr)
     requires room { array_vec_len line.old + unit_width ≤ line_bytes }
     requires text { HasText instruction.now }

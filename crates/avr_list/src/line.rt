@@ -29,7 +29,7 @@ pub fn list_line(number: u16, place: u16, unit: &Unit, line: &mut Line)
     add_text(line, b"\n");
 }
 
-// Adds what a unit is.
+/// Adds what a unit is.
 fn add_unit(line: &mut Line, unit: &Unit)
     requires room { array_vec_len line.old + unit_width ≤ line_bytes }
     requires kind { IsOfKind unit.now }

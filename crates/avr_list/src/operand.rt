@@ -38,7 +38,7 @@ pub enum Operand {
     Target(u16),
 }
 
-// Adds the letter of a pointer.
+/// Adds the letter of a pointer.
 fn add_pointer(line: &mut Line, pointer: Pointer)
     requires { array_vec_len line.old + 1 ≤ line_bytes }
     ensures items { line.new.items ≡ line.old.items ++ pointer_text pointer }
@@ -51,7 +51,7 @@ fn add_pointer(line: &mut Line, pointer: Pointer)
     }
 }
 
-// Adds what stands before an operand's number, and the number.
+/// Adds what stands before an operand's number, and the number.
 fn add_marked(line: &mut Line, mark: &[u8], number: u16)
     requires room { array_vec_len line.old + 1 + number_width ≤ line_bytes }
     requires short { length mark.now ≤ 1 }
@@ -62,7 +62,7 @@ fn add_marked(line: &mut Line, mark: &[u8], number: u16)
     add_number(line, number);
 }
 
-// Adds an operand.
+/// Adds an operand.
 fn add_operand(line: &mut Line, operand: Operand)
     requires { array_vec_len line.old + operand_width ≤ line_bytes }
     ensures items { line.new.items ≡ line.old.items ++ operand_text operand }
@@ -108,7 +108,8 @@ pub fn add_one(line: &mut Line, name: &[u8], operand: Operand)
 pub fn add_two(line: &mut Line, name: &[u8], first: Operand, second: Operand)
     requires room { array_vec_len line.old + unit_width ≤ line_bytes }
     requires short { length name.now ≤ name_width }
-    ensures items { line.new.items ≡ line.old.items ++ with_operands name.now (operand_text first) (operand_text second) }
+    ensures items { line.new.items ≡ line.old.items
+        ++ with_operands name.now (operand_text first) (operand_text second) }
     ensures len { array_vec_len line.new ≤ array_vec_len line.old + unit_width }
 {
     add_one(line, name, first);

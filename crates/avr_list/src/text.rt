@@ -44,7 +44,7 @@ pub fn add_word(line: &mut Line, word: u16)
     add_text(line, &digits);
 }
 
-// The digit of a value below 16, in lower case.
+/// The digit of a value below 16, in lower case.
 fn hex_digit(value: u16) -> u8
     requires { value < 16 }
     ensures { result ≡ digit_char value }

@@ -1,5 +1,5 @@
 -- Laws of the effect that hold of whole classes of instructions.
-use Rattle.std.proofs.Common.{◌≡◌, ◌∙◌, ◌↔◌, ℕ, ℤ, ◌+◌, ◌-◌, ◌*◌, ◌<◌, ◌≤◌, List, [], ◌∷◌, length, Some, refl, ap, sym, subst, arith}
+use Rattle.std.proofs.Common.{◌≡◌, ◌∙◌, ◌↔◌, ℕ, ℤ, ◌+◌, ◌-◌, ◌*◌, ◌%◌, ◌<◌, ◌≤◌, List, [], ◌∷◌, length, Some, refl, ap, sym, subst, arith}
 use Rattle.std.specs.Prelude.{slice_index, slice_set}
 use Rattle.std.proofs.lemmas.List.{get_or-set_other, get_or-set_same, length-set}
 use Rattle.avr_isa.specs.declared.instruction.Instr.{Instr}
@@ -8,9 +8,9 @@ use Rattle.mote_layout.specs.Memory.{pointer_x, pointer_y, pointer_z, ram_bytes,
 use Rattle.avr_machine.specs.Processor.{Processor, high, low, lowered, pair, raised, register, with_pc}
 use Rattle.avr_machine.specs.DataRead.{IsInMemory, data_read}
 use Rattle.avr_machine.specs.Write.{Write, set_register, set_pair, set_byte, set_port, set_sp, set_sreg, set_pc, after, written}
-use Rattle.avr_machine.specs.Effect.{effect, load_falling, load_rising, writes}
+use Rattle.avr_machine.specs.Effect.{effect, load_falling, load_rising, moved, writes}
 use Rattle.avr_machine.specs.Conditions.{AreInside, IsApartFrom, IsSkip, IsStraight}
-use Rattle.avr_machine.specs.Laws.{HasRoom, Spares, with_pushed}
+use Rattle.avr_machine.specs.Laws.{HasRoom, Spares, after_call, with_pushed}
 use Rattle.avr_machine.specs.Modes.{behind, load_address, moved_register, store_address}
 use Rattle.avr_machine.proofs.ReadBack.{memory_read, registers_read}
 
@@ -37,13 +37,11 @@ only_skips_look_over (Sbrc r k) a b p no_skip = absurd (no_skip tt)
 only_skips_look_over (Sbrs r k) a b p no_skip = absurd (no_skip tt)
 only_skips_look_over _ a b p no_skip = refl
 
-pub call_pushes : (k over : ℕ) (p : Processor)
-    → effect (Call k) over p ≡ with_pc (record p { sp = lowered (lowered p.sp); memory = with_pushed p.memory p.sp p.pc }) (effect (Call k) over p).pc
+pub call_pushes : (k over : ℕ) (p : Processor) → effect (Call k) over p ≡ after_call p (k % 65536)
 unfolding writes
 call_pushes k over p = refl
 
-pub relative_call_pushes : (k : ℤ) (over : ℕ) (p : Processor)
-    → effect (Rcall k) over p ≡ with_pc (record p { sp = lowered (lowered p.sp); memory = with_pushed p.memory p.sp p.pc }) (effect (Rcall k) over p).pc
+pub relative_call_pushes : (k : ℤ) (over : ℕ) (p : Processor) → effect (Rcall k) over p ≡ after_call p (moved p k)
 unfolding writes
 relative_call_pushes k over p = refl
 
@@ -51,11 +49,10 @@ relative_call_pushes k over p = refl
 byte_at : (p : Processor) (a v : ℕ) → IsInMemory a → slice_index p.memory (a - ram_start) ≡ v → data_read p a ≡ v
 byte_at p a v inside is = memory_read p a inside ∙ is
 
-pub ret_gives_back : (over address : ℕ) (p : Processor) → HasRoom p → p.pc < 65536
-    → effect Ret over (with_pc (record p { sp = lowered (lowered p.sp); memory = with_pushed p.memory p.sp p.pc }) address)
-    ≡ record p { memory = with_pushed p.memory p.sp p.pc }
+pub ret_gives_back : (over target : ℕ) (p : Processor) → HasRoom p → p.pc < 65536
+    → effect Ret over (after_call p target) ≡ record p { memory = with_pushed p.memory p.sp p.pc }
 unfolding writes
-ret_gives_back over address p room small =
+ret_gives_back over target p room small =
     let whole = room.whole in
     let first = room.first in
     let second = room.second in
@@ -74,8 +71,8 @@ ret_gives_back over address p room small =
     let read_low : (q : Processor) → q.memory ≡ memory → data_read q p.sp ≡ low p.pc =
     λ q e. byte_at q p.sp (low p.pc) first (ap (λ m. slice_index m (p.sp - ram_start)) e ∙ at_low) in
     let joined : high p.pc * 256 + low p.pc ≡ p.pc = omega arith in
-    let below : Processor = record { registers = p.registers; sreg = p.sreg; sp = lowered p.sp; pc = address; memory = memory } in
-    let back : Processor = record { registers = p.registers; sreg = p.sreg; sp = p.sp; pc = address; memory = memory } in
+    let below : Processor = record { registers = p.registers; sreg = p.sreg; sp = lowered p.sp; pc = target; memory = memory } in
+    let back : Processor = record { registers = p.registers; sreg = p.sreg; sp = p.sp; pc = target; memory = memory } in
     rw (once, twice, read_high below refl, read_low back refl, joined) refl
 
 -- a byte that no change names stays

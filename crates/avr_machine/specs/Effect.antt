@@ -57,7 +57,8 @@ multiplied p op d r =
 
 -- Rd := the byte that is read at a pointer, which rises after the read
 abbrev pub load_rising : Processor → ℕ → ℕ → List Write
-load_rising p pointer d = set_register d (data_read p (pair p pointer)) ∷ set_pair pointer (raised (pair p pointer)) ∷ []
+load_rising p pointer d = set_register d (data_read p (pair p pointer))
+    ∷ set_pair pointer (raised (pair p pointer)) ∷ []
 
 -- Rd := the byte that is read at a pointer, which falls before the read
 abbrev pub load_falling : Processor → ℕ → ℕ → List Write
@@ -97,7 +98,8 @@ popped p = data_read (popping p) (raised p.sp)
 -- PC, which is the address of the next instruction, is pushed, its low byte first, and becomes the target.
 abbrev pub called : Processor → ℕ → List Write
 called p target =
-    set_byte p.sp (low p.pc) ∷ set_byte (lowered p.sp) (high p.pc) ∷ set_sp (lowered (lowered p.sp)) ∷ set_pc target ∷ []
+    set_byte p.sp (low p.pc) ∷ set_byte (lowered p.sp) (high p.pc) ∷ set_sp (lowered (lowered p.sp))
+    ∷ set_pc target ∷ []
 
 -- PC is popped, its high byte first.
 abbrev pub returned : Processor → List Write

@@ -1,12 +1,12 @@
 -- What holds of the effects of whole classes of instructions.
-use Rattle.std.specs.Prelude.{◌≡◌, ◌≢◌, ◌↔◌, ℕ, ℤ, ◌-◌, ◌<◌, ◌≤◌, List, [], ◌∷◌, length, Some, slice_index, slice_index_or, slice_set, ◌+◌}
+use Rattle.std.specs.Prelude.{◌≡◌, ◌≢◌, ◌↔◌, ℕ, ℤ, ◌-◌, ◌%◌, ◌<◌, ◌≤◌, List, [], ◌∷◌, length, Some, slice_index, slice_index_or, slice_set, ◌+◌}
 use Rattle.avr_isa.specs.declared.instruction.Instr.{Instr}
 use Rattle.avr_isa.specs.declared.instruction.Instr.TheVariants.{Call, Rcall, Ret}
 use Rattle.mote_layout.specs.Memory.{bank_start, bank_words, ram_bytes, ram_start, register_count}
 use Rattle.avr_machine.specs.Processor.{Processor, register, low, high, lowered, with_pc}
 use Rattle.avr_machine.specs.DataRead.{IsInMemory, data_read}
 use Rattle.avr_machine.specs.Write.{Write, set_register, set_pair, set_byte, set_port, set_sp, set_sreg, set_pc, after}
-use Rattle.avr_machine.specs.Effect.{effect, writes}
+use Rattle.avr_machine.specs.Effect.{effect, moved, writes}
 use Rattle.avr_machine.specs.Conditions.{AreInside, IsSkip, IsStraight}
 use Rattle.avr_machine.specs.Flash.{Banks, word_at}
 use Rattle.avr_machine.specs.Modes.{load_address, moved_register, store_address}
@@ -31,20 +31,21 @@ pub record HasRoom (p : Processor) : Type 0 where
   pub first : IsInMemory p.sp
   pub second : IsInMemory (lowered p.sp)
 
--- A call pushes PC and lowers SP by two; all else but PC stays.
+-- the processor after a call: PC was pushed and is the target, and SP is lower by two
+abbrev pub after_call : Processor → ℕ → Processor
+after_call p target = record p { sp = lowered (lowered p.sp); pc = target; memory = with_pushed p.memory p.sp p.pc }
+
+-- A call pushes PC and goes to its target.
 abbrev pub CallPushes : Type 0
-CallPushes = (k over : ℕ) (p : Processor)
-    → effect (Call k) over p ≡ with_pc (record p { sp = lowered (lowered p.sp); memory = with_pushed p.memory p.sp p.pc }) (effect (Call k) over p).pc
+CallPushes = (k over : ℕ) (p : Processor) → effect (Call k) over p ≡ after_call p (k % 65536)
 
 abbrev pub RelativeCallPushes : Type 0
-RelativeCallPushes = (k : ℤ) (over : ℕ) (p : Processor)
-    → effect (Rcall k) over p ≡ with_pc (record p { sp = lowered (lowered p.sp); memory = with_pushed p.memory p.sp p.pc }) (effect (Rcall k) over p).pc
+RelativeCallPushes = (k : ℤ) (over : ℕ) (p : Processor) → effect (Rcall k) over p ≡ after_call p (moved p k)
 
--- RET gives back what a call pushed: from wherever it comes, PC and SP are those before the call.
+-- RET gives back what a call pushed: PC and SP are those before the call, and the pushed bytes stay.
 abbrev pub RetGivesBack : Type 0
-RetGivesBack = (over address : ℕ) (p : Processor) → HasRoom p → p.pc < 65536
-    → effect Ret over (with_pc (record p { sp = lowered (lowered p.sp); memory = with_pushed p.memory p.sp p.pc }) address)
-    ≡ record p { memory = with_pushed p.memory p.sp p.pc }
+RetGivesBack = (over target : ℕ) (p : Processor) → HasRoom p → p.pc < 65536
+    → effect Ret over (after_call p target) ≡ record p { memory = with_pushed p.memory p.sp p.pc }
 
 -- none of the changes is of the byte at this address
 abbrev pub Spares : ℕ → List Write → Type 0

@@ -135,7 +135,8 @@ impl Cpu {
     pub(crate) fn put_bit(&mut self, d: u8, bit: u8)
         requires register { d < register_count }
         requires bit { bit < 8 }
-        ensures { self.new ≡ after (set_register d (with_bit (register self.old d) bit (transfer self.old)) ∷ []) self.old }
+        ensures { self.new ≡ after (set_register d (with_bit (register self.old d) bit (transfer self.old))
+            ∷ []) self.old }
     {
         let byte = with_bit(self.register(d), bit, is_set(self.sreg, TRANSFER));
         self.write_register(d, byte);

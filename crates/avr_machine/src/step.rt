@@ -26,7 +26,8 @@ impl Cpu {
     /// Runs the instruction at PC.
     pub fn step(&mut self, flash: &Flash) -> Stepped
         requires { CanStep flash.now self.old }
-        ensures went { (i : Instr) (n : ℕ) → Fetches flash.now self.old.pc i n → self.new ≡ effect i (following flash.now (advanced self.old n).pc) (advanced self.old n) }
+        ensures went { (i : Instr) (n : ℕ) → Fetches flash.now self.old.pc i n
+            → self.new ≡ effect i (following flash.now (advanced self.old n).pc) (advanced self.old n) }
         ensures entry { result ≡ arrived self.new.pc }
     {
         let (instruction, words) = flash.fetch(self.pc);

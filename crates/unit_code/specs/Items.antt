@@ -45,7 +45,8 @@ with_item place (standing, further) behind = record { place = place; standing = 
 -- What stands where, from a place on. The first argument is the number of words that still belong to the item before.
 abbrev pub items_from : ℕ → ℕ → List ℕ → List Item
 items_from over place [] = []
-items_from zero place (w ∷ ws) = with_item place (found w (next_word ws) (next_word (drop 1 ws))) (λ over. items_from over (place + 1) ws)
+items_from zero place (w ∷ ws) =
+    with_item place (found w (next_word ws) (next_word (drop 1 ws))) (λ over. items_from over (place + 1) ws)
 items_from (suc over) place (w ∷ ws) = items_from over (place + 1) ws
 
 -- What stands at each place of the words where something begins, in order.

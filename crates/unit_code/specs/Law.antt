@@ -19,7 +19,8 @@ use Rattle.unit_code.specs.Units.{places_of, units_of}
 
 -- This stands at the word, with these items behind it.
 abbrev pub StandsIn : List ℕ → ℕ → Standing → List Item → Type 0
-StandsIn words word standing behind = (k : ℕ) × (drop k (items_of words) ≡ record { place = word; standing = standing } ∷ behind)
+StandsIn words word standing behind =
+    (k : ℕ) × (drop k (items_of words) ≡ record { place = word; standing = standing } ∷ behind)
 
 -- Two further units stand there, of which the first is no group.
 abbrev pub CanPass : List Item → Type 0
@@ -29,7 +30,8 @@ CanPass (next ∷ other ∷ behind) = is_group next.standing ≡ false
 
 -- The target is no unit's first word, or the skip can't skip.
 abbrev pub LeadsAstray : List ℕ → ℕ → Piece → List Item → Type 0
-LeadsAstray places place (Aimed aim offset) behind = (word : ℕ) → reached place offset ≡ Some word → ¬ Contains places word
+LeadsAstray places place (Aimed aim offset) behind = (word : ℕ) → reached place offset ≡ Some word
+    → ¬ Contains places word
 LeadsAstray places place (Whole (Skip i)) behind = ¬ CanPass behind
 LeadsAstray places place (Whole _) behind = ⊥
 
@@ -37,10 +39,12 @@ LeadsAstray places place (Whole _) behind = ⊥
 abbrev pub Holds : List ℕ → List ℕ → Bool → CodeError → Type 0
 Holds words marks sealed (Undefined word) = (behind : List Item) × StandsIn words word NoInstruction behind
 Holds words marks sealed (Refused word kind) = (behind : List Item) × StandsIn words word (Barred kind) behind
-Holds words marks sealed (Target word) = (piece : Piece) × (behind : List Item) × StandsIn words word (Part piece) behind × LeadsAstray (places_of words) word piece behind
+Holds words marks sealed (Target word) = (piece : Piece) × (behind : List Item)
+    × StandsIn words word (Part piece) behind × LeadsAstray (places_of words) word piece behind
 Holds words marks sealed FallsOff = goes_on (units_of words sealed) ≡ true
 Holds words marks sealed Empty = words ≡ []
-Holds words marks sealed (TooLong count) = (bank_words < long_length (units_of words sealed)) × (count ≡ min (long_length (units_of words sealed)) 65535)
+Holds words marks sealed (TooLong count) = (bank_words < long_length (units_of words sealed))
+    × (count ≡ min (long_length (units_of words sealed)) 65535)
 Holds words marks sealed (Entry word) = Contains marks word × (¬ Contains (places_of words) word)
 Holds words marks sealed NoMemory = ⊥
 

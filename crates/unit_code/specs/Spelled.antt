@@ -39,13 +39,17 @@ AreInstructionsOf firsts place (Pop d) is = is ≡ instr.Pop d ∷ []
 AreInstructionsOf firsts place (SpGroup true) is = is ≡ out_high ∷ out_status ∷ out_low ∷ []
 AreInstructionsOf firsts place (SpGroup false) is = is ≡ out_high ∷ out_low ∷ []
 AreInstructionsOf firsts place Reserve is = is ≡ instr.Rcall (pos zero) ∷ []
-AreInstructionsOf firsts place (Branch true bit u) is = is ≡ instr.Brbs bit (offset_to place (slice_index firsts u)) ∷ []
-AreInstructionsOf firsts place (Branch false bit u) is = is ≡ instr.Brbc bit (offset_to place (slice_index firsts u)) ∷ []
+AreInstructionsOf firsts place (Branch true bit u) is =
+    is ≡ instr.Brbs bit (offset_to place (slice_index firsts u)) ∷ []
+AreInstructionsOf firsts place (Branch false bit u) is =
+    is ≡ instr.Brbc bit (offset_to place (slice_index firsts u)) ∷ []
 AreInstructionsOf firsts place (Jump u) is = is ≡ instr.Rjmp (offset_to place (slice_index firsts u)) ∷ []
 AreInstructionsOf firsts place (LocalCall u) is =
     (is ≡ instr.Rcall (offset_to place (slice_index firsts u)) ∷ []) × (slice_index firsts u ≢ place + 1)
-AreInstructionsOf firsts place (KernelCall n) is = (address : ℕ) × StandsAt (Kernel n) address × (is ≡ instr.Call address ∷ [])
-AreInstructionsOf firsts place (SlotCall n) is = (address : ℕ) × StandsAt (Slot n) address × (is ≡ instr.Call address ∷ [])
+AreInstructionsOf firsts place (KernelCall n) is = (address : ℕ) × StandsAt (Kernel n) address
+    × (is ≡ instr.Call address ∷ [])
+AreInstructionsOf firsts place (SlotCall n) is = (address : ℕ) × StandsAt (Slot n) address
+    × (is ≡ instr.Call address ∷ [])
 AreInstructionsOf firsts place SlotIndirect is = is ≡ instr.Icall ∷ []
 AreInstructionsOf firsts place Return is = is ≡ instr.Ret ∷ []
 

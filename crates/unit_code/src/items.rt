@@ -19,7 +19,7 @@ pub struct Item {
     pub standing: Standing,
 }
 
-// OUT of R29 to SP's high byte, of R0 to SREG and of R28 to SP's low byte.
+/// OUT of R29 to SP's high byte, of R0 to SREG and of R28 to SP's low byte.
 const OUT_SPH: u16 = 0xBFDE;
 
 const OUT_SREG: u16 = 0xBE0F;

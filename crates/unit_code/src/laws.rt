@@ -10,6 +10,8 @@ ghost use Rattle.unit_code.specs.Units.{listed, refusal};
 pub fn one_reading()
     ensures spelled { (words marks : List ℕ) (sealed : Bool) → AllByRecursion (λ word. word < 2 ^ 16) words
         → refusal words marks sealed ≡ None → IsSpelled words marks sealed (listed words marks sealed) }
-    ensures read { (words marks : List ℕ) (sealed : Bool) (list : Listing) → AllByRecursion (λ word. word < 2 ^ 16) words
-        → length words ≤ 65535 → IsSpelled words marks sealed list → (refusal words marks sealed ≡ None) × (listed words marks sealed ≡ list) }
+    ensures read { (words marks : List ℕ) (sealed : Bool) (list : Listing)
+        → AllByRecursion (λ word. word < 2 ^ 16) words
+        → length words ≤ 65535 → IsSpelled words marks sealed list
+        → (refusal words marks sealed ≡ None) × (listed words marks sealed ≡ list) }
 {}

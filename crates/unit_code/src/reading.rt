@@ -31,13 +31,15 @@ pub fn units(
     sealed: bool,
 ) -> Result<UnitList, CodeError>
     requires { length code.now ≤ 65535 }
-    ensures ok { IfOk result (λ list. (refusal code.now marks.now sealed ≡ None) × (list ≡ listed code.now marks.now sealed)) }
+    ensures ok { IfOk result (λ list. (refusal code.now marks.now sealed ≡ None)
+        × (list ≡ listed code.now marks.now sealed)) }
     ensures err { IfErr result (λ e. (e ≡ CodeError.NoMemory) ⊎ (refusal code.now marks.now sealed ≡ Some e)) }
 
     // What the list is like, and why it is refused, in the words of the conditions.
     ensures proper { IfOk result (λ list. IsProper list.units sealed) }
     ensures together { IfOk result (λ list. FitsTogether list marks.now) }
-    ensures first { MatchResult result (λ _. NoneHolds code.now marks.now sealed) (λ e. (e ≡ CodeError.NoMemory) ⊎ IsFirst code.now marks.now sealed e) }
+    ensures first { MatchResult result (λ _. NoneHolds code.now marks.now sealed)
+        (λ e. (e ≡ CodeError.NoMemory) ⊎ IsFirst code.now marks.now sealed e) }
 {
     listing(alloc, code, marks, sealed)
 }
@@ -49,7 +51,8 @@ fn listing(
     sealed: bool,
 ) -> Result<UnitList, CodeError>
     requires { length code.now ≤ 65535 }
-    ensures ok { IfOk result (λ list. (refusal code.now marks.now sealed ≡ None) × (list ≡ listed code.now marks.now sealed)) }
+    ensures ok { IfOk result (λ list. (refusal code.now marks.now sealed ≡ None)
+        × (list ≡ listed code.now marks.now sealed)) }
     ensures err { IfErr result (λ e. (e ≡ CodeError.NoMemory) ⊎ (refusal code.now marks.now sealed ≡ Some e)) }
     ensures sound { IfOk result (λ list. AreSound (items_of code.now)) }
 {
