@@ -32,7 +32,8 @@ impl Model for Links {
 
     ghost view = { λ l. l.seats.items };
 
-    ghost invariant = { λ l. AreSeats l.seats.items × AreSlots l.seats.items l.slots × (domain_count ≤ vec_capacity l.seats) };
+    ghost invariant = { λ l. AreSeats l.seats.items × AreSlots l.seats.items l.slots
+        × (domain_count ≤ vec_capacity l.seats) };
 }
 
 impl Links {

@@ -1,5 +1,5 @@
-//! The kinds of field. Each call reads the field at the front of the bytes, which stands at that place of the file, and gives
-//! its value and the bytes after it.
+//! The kinds of field. Each call reads the field at the front of the bytes, which stands at that place of the file,
+//! and gives its value and the bytes after it.
 ghost use Rattle.std.specs.Prelude.{◌≡◌, ◌<◌, ◌≤◌, ◌^◌, length, IfOk};
 ghost use Rattle.module_image.specs.Reading.{Gives, byte_at, number_at, limited_at, bytes_at, prototype_at};
 

@@ -1,7 +1,8 @@
 //! The file of a module: its image. A file is read into the parts that it spells, and parts are written as a file.
 //!
-//! An image is its fields in their order, each with its rule, and nothing more. `parse` gives the one reading of such a file, and
-//! for every other file the refusal of the first field that fails, with its place. `write_image` gives the file of its arguments.
+//! An image is its fields in their order, each with its rule, and nothing more. `parse` gives the one reading of such a
+//! file, and for every other file the refusal of the first field that fails, with its place. `write_image` and
+//! `write_image2` give the file of their arguments, in the first and in the second version of the format.
 #![tactic(auto)]
 
 mod error;

@@ -108,7 +108,8 @@ fn read_constant_count(version: u8, bytes: &[u8]) -> Result<(u16, &[u8]), ImageE
 #[tactic(auto, unfolding(crate::specs::Reading::counts_at))]
 pub fn read_counts(version: u8, bytes: &[u8]) -> Result<(Counts, &[u8]), ImageError>
     ensures exact { Gives (λ x. (x.0, x.1.now)) result (counts_at version bytes.now) }
-    ensures bounds { IfOk result (λ x. (x.0.provided ≤ provided_limit) × (x.0.subscribed ≤ subscribed_limit) × (x.0.constants ≤ constants_limit)) }
+    ensures bounds { IfOk result (λ x. (x.0.provided ≤ provided_limit) × (x.0.subscribed ≤ subscribed_limit)
+        × (x.0.constants ≤ constants_limit)) }
 {
     let (provided, rest) = byte(11, 0, PROVIDED as u8, bytes)?;
     let (subscribed, rest) = byte(12, 0, SUBSCRIBED as u8, rest)?;

@@ -135,7 +135,8 @@ fn check_end(at: u32, rest: &[u8]) -> Result<(), ImageError>
 #[tactic(auto, unfolding(crate::specs::Reading::image_of))]
 fn read(file: &[u8]) -> Result<Parts<'_>, ImageError>
     ensures whole { IfOk result (λ p. length p.code.now % 2 ≡ 0) }
-    ensures exact { Gives (λ p. contents_of p.settings p.provided.items p.subscribed.items p.code.now p.constants.now) result (image_of file.now) }
+    ensures exact { Gives (λ p. contents_of p.settings p.provided.items p.subscribed.items p.code.now p.constants.now)
+        result (image_of file.now) }
 {
     let (version, rest) = read_opening(file)?;
     let (settings, rest) = read_settings(version, rest)?;

@@ -31,7 +31,8 @@ impl<'a> Model for ImageView<'a> {
 
     ghost view = { λ v. contents_with v.settings v.face v.code.now v.constants.now };
 
-    ghost invariant = { λ v. (length v.code.now % 2 ≡ 0) × Rules (contents_with v.settings v.face v.code.now v.constants.now) };
+    ghost invariant = { λ v. (length v.code.now % 2 ≡ 0)
+        × Rules (contents_with v.settings v.face v.code.now v.constants.now) };
 }
 
 impl<'a> ImageView<'a> {

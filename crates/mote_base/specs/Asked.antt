@@ -38,3 +38,19 @@ ReadsOn (Some left) files (Read (byte ∷ bytes) ∷ calls) =
 -- The same from before the first call on.
 abbrev pub Reads : List (List ℕ × ℕ) → List Asked → Type 0
 Reads files calls = ReadsOn None files calls
+
+-- The calls read all of these files to their ends, each within the most bytes that are wanted of it.
+abbrev pub EndsReading : Option ℕ → List (List ℕ × ℕ) → List Asked → Type 0
+EndsReading None [] [] = ⊤
+EndsReading None (file ∷ files) [] = ⊥
+EndsReading (Some left) files [] = ⊥
+EndsReading None [] (asked ∷ calls) = ⊥
+EndsReading None ((name, most) ∷ files) (Start asked ∷ calls) = (asked ≡ name) × EndsReading (Some most) files calls
+EndsReading None (file ∷ files) (Read bytes ∷ calls) = ⊥
+EndsReading (Some left) files (Start name ∷ calls) = ⊥
+EndsReading (Some left) files (Read [] ∷ calls) = EndsReading None files calls
+EndsReading (Some left) files (Read (byte ∷ bytes) ∷ calls) =
+    (length (byte ∷ bytes) ≤ left) × EndsReading (Some (left - length (byte ∷ bytes))) files calls
+
+abbrev pub ReadsAll : List (List ℕ × ℕ) → List Asked → Type 0
+ReadsAll files calls = EndsReading None files calls

@@ -5,21 +5,21 @@ ghost use Rattle.mote_base.specs.Statuses.{code_of};
 use std::alloc::{AllocError, AllocFailed};
 use thiserror::Error;
 
-/// What the program answers.
+/// What the program answers. The numbers are its exit statuses.
 #[derive(Clone, Copy, Debug, PartialEq, Eq)]
 pub enum Status {
     /// The whole output was written.
-    Done,
+    Done = 0,
     /// The words are no command.
-    Usage,
+    Usage = 2,
     /// The command refuses its files.
-    Refused,
+    Refused = 3,
     /// A call of the shelf failed.
-    ReadFault,
+    ReadFault = 4,
     /// A call of the sink failed.
-    WriteFault,
+    WriteFault = 5,
     /// Memory ran out before anything was written.
-    NoMemory,
+    NoMemory = 6,
 }
 
 impl Status {
@@ -27,14 +27,7 @@ impl Status {
     pub fn code(self) -> u8
         ensures { result ≡ code_of self }
     {
-        match self {
-            Status::Done => 0,
-            Status::Usage => 2,
-            Status::Refused => 3,
-            Status::ReadFault => 4,
-            Status::WriteFault => 5,
-            Status::NoMemory => 6,
-        }
+        self as u8
     }
 }
 

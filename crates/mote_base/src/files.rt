@@ -46,7 +46,10 @@ impl Files {
     /// Chooses the first file of that name, at its front. Where there is none, none is chosen.
     pub fn choose(&mut self, name: &Word) -> bool
         ensures held { result ≡ is_some (held self.old.files name.now) }
-        ensures chosen { self.new ≡ record { files = self.old.files; chosen = front_of (held self.old.files name.now) } }
+        ensures chosen { self.new ≡ record {
+          files = self.old.files;
+          chosen = front_of (held self.old.files name.now);
+        } }
     {
         self.chosen = find(&self.files, name).map(|file| Cursor { file, at: 0 });
         self.chosen.is_some()

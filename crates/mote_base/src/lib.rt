@@ -1,8 +1,8 @@
 //! What every crate of the mote stands on: texts, words of code, lines, statuses, and the outside.
 //!
-//! The outside is a shelf of files to read and a sink to write to. Each is a trait whose contract says what a call gives,
-//! when it may fail, and what its count of faults tells. Four types meet the traits in memory: two fail exactly where they
-//! are told to, and two never fail.
+//! The outside is a shelf of files to read and a sink to write to. Each is a trait whose contract says what a call
+//! gives, when it may fail, what its count of faults tells, and which calls were made. Four types meet the traits in
+//! memory: two fail exactly where they are told to, and two never fail.
 #![tactic(auto)]
 
 mod digits;

@@ -14,7 +14,8 @@ use crate::{Failed, NoMemory, Shelf, Sink, Word};
 use std::alloc::Global;
 use std::marker::Model;
 
-/// Files in memory. It fails at the calls with the listed numbers, counted from 0, at a start of a name that it lacks, and at no other.
+/// Files in memory. It fails at the calls with the listed numbers, counted from 0, at a start of a name that it lacks,
+/// and at no other.
 #[derive(Drop)]
 pub struct MemShelf {
     files: Files,
@@ -28,7 +29,13 @@ impl Model for MemShelf {
 
     ghost Value = { FailingShelf };
 
-    ghost view = { λ s. record { files = s.files.files; chosen = s.files.chosen; fails = s.fails.items; calls = s.calls; faults = s.faults } };
+    ghost view = { λ s. record {
+      files = s.files.files;
+      chosen = s.files.chosen;
+      fails = s.fails.items;
+      calls = s.calls;
+      faults = s.faults;
+    } };
 }
 
 impl MemShelf {
@@ -37,7 +44,13 @@ impl MemShelf {
         files: Vec<(Word, Vec<u8>)>,
         fails: Vec<u32>,
     ) -> Result<MemShelf, NoMemory>
-        ensures { IfOk result (λ s. s ≡ record { files = named files.items; chosen = None; fails = fails.items; calls = 0; faults = 0 }) }
+        ensures { IfOk result (λ s. s ≡ record {
+          files = named files.items;
+          chosen = None;
+          fails = fails.items;
+          calls = 0;
+          faults = 0;
+        }) }
     {
         Ok(MemShelf {
             files: Files::new(files),
@@ -117,7 +130,8 @@ impl Shelf for MemShelf {
     }
 }
 
-/// Bytes in memory, up to a room. It fails at the puts with the listed numbers, counted from 0, at a piece that passes the room, and at no other.
+/// Bytes in memory, up to a room. It fails at the puts with the listed numbers, counted from 0, at a piece that passes
+/// the room, and at no other.
 #[derive(Drop)]
 pub struct MemSink {
     bytes: Vec<u8>,
@@ -133,7 +147,13 @@ impl Model for MemSink {
 
     ghost Value = { FailingSink };
 
-    ghost view = { λ s. record { bytes = s.bytes.items; room = s.room; fails = s.fails.items; calls = s.calls; faults = s.faults } };
+    ghost view = { λ s. record {
+      bytes = s.bytes.items;
+      room = s.room;
+      fails = s.fails.items;
+      calls = s.calls;
+      faults = s.faults;
+    } };
 
     ghost invariant = { λ s. (vec_len s.bytes ≤ s.room) × (s.room ≤ vec_capacity s.bytes) };
 }
@@ -141,7 +161,13 @@ impl Model for MemSink {
 impl MemSink {
     /// An empty sink. Its memory is taken here, and no put takes more.
     pub fn new(alloc: Global, room: usize, fails: Vec<u32>) -> Result<MemSink, NoMemory>
-        ensures { IfOk result (λ s. s ≡ record { bytes = []; room = room; fails = fails.items; calls = 0; faults = 0 }) }
+        ensures { IfOk result (λ s. s ≡ record {
+          bytes = [];
+          room = room;
+          fails = fails.items;
+          calls = 0;
+          faults = 0;
+        }) }
     {
         let bytes = Vec::with_capacity(alloc, room)?;
         Ok(MemSink {

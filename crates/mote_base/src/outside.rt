@@ -9,7 +9,8 @@ use crate::{Failed, Word};
 
 /// Files by name. One of them may be chosen, and is then read from its front.
 ///
-/// A file is chosen from an Ok of `start` until a call fails. What the buffer and the place are after `Failed` is not stated.
+/// A file is chosen from an Ok of `start` until a call fails. What the buffer and the place are after `Failed` is not
+/// stated.
 pub trait Shelf {
     /// The files that it holds, where it tells them.
     ghost files: { Self → Option (List Named) };
@@ -43,7 +44,8 @@ pub trait Shelf {
         ensures names { admits self.new ≡ admits self.old }
         ensures cause { HasCause (faults self.old) (faults self.new) result };
 
-    /// Gives the next bytes of the chosen file: none only at its end and for an empty buffer. The rest of the buffer stays.
+    /// Gives the next bytes of the chosen file: none only at its end and for an empty buffer. The rest of the buffer
+    /// stays.
     fn read(&mut self, buf: &mut [u8]) -> Result<usize, Failed>
         requires { IsTrue (is_chosen self.old) }
 

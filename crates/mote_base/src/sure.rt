@@ -104,9 +104,9 @@ impl Sink for SureSink {
         ensures sure { is_ok result ≡ true }
         ensures total { self.new ≡ total_with self.old piece.now }
 
-        ensures ok { OnOk result (Grows (⟦<SureSink as Sink>⟧.written self.old) (⟦<SureSink as Sink>⟧.written self.new) piece.now) }
-        ensures partly { OnErr result (GrowsByPart (⟦<SureSink as Sink>⟧.written self.old) (⟦<SureSink as Sink>⟧.written self.new) piece.now) }
-        ensures cause { HasCause (⟦<SureSink as Sink>⟧.faults self.old) (⟦<SureSink as Sink>⟧.faults self.new) result }
+        ensures ok { OnOk result (Grows None None piece.now) }
+        ensures partly { OnErr result (GrowsByPart None None piece.now) }
+        ensures cause { HasCause 0 0 result }
         ensures leads { Counts self.old piece.now (is_ok result) self.new }
     {
         self.total = self.total.saturating_add(piece.len() as u64);

@@ -27,7 +27,8 @@ impl<P: Drop> Model for Queues<P> {
 
     ghost view = { λ q. record { high = q.high.items; low = q.low.items } };
 
-    ghost invariant = { λ q. ((q.high.capacity ≡ queue_limit) × (length q.high.items ≤ queue_limit)) × ((q.low.capacity ≡ queue_limit) × (length q.low.items ≤ queue_limit)) };
+    ghost invariant = { λ q. ((q.high.capacity ≡ queue_limit) × (length q.high.items ≤ queue_limit))
+        × ((q.low.capacity ≡ queue_limit) × (length q.low.items ≤ queue_limit)) };
 }
 
 impl<P: Drop> Queues<P> {

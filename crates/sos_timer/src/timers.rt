@@ -75,7 +75,13 @@ impl Timers {
         ensures zero { (result ≡ outcome.Zero) ↔ (ticks ≡ 0) }
         ensures limit { (length self.old ≤ timer_limit) × (length self.new ≤ timer_limit) }
         ensures full { (result ≡ outcome.Full) ↔ ((ticks ≢ 0) × (timer_limit ≤ length (without «module» id self.old))) }
-        ensures timers { self.new ≡ started (record { «module» = «module»; id = id; due = now + ticks; ticks = ticks; again = again }) self.old }
+        ensures timers { self.new ≡ started (record {
+          «module» = «module»;
+          id = id;
+          due = now + ticks;
+          ticks = ticks;
+          again = again;
+        }) self.old }
     {
         let has_room = self.has_room(module, id);
         if ticks == 0 {
@@ -108,7 +114,8 @@ impl Timers {
     /// Takes the first timer whose due moment has come, or starts it anew from now where it repeats.
     pub fn due(&mut self, now: u64) -> Option<Fired>
         requires { now < 2 ^ 63 }
-        ensures fired { result ≡ option_map (λ (t : Timer). record { «module» = t.«module»; id = t.id }) (firing now self.old) }
+        ensures fired { result ≡ option_map (λ (t : Timer). record { «module» = t.«module»; id = t.id })
+            (firing now self.old) }
         ensures timers { self.new ≡ after_firing now self.old }
         ensures none { (result ≡ None) ↔ AreToCome now self.old }
         ensures order { InOrder self.old }
@@ -118,7 +125,8 @@ impl Timers {
 
     fn fire(&mut self, now: u64) -> Option<Fired>
         requires { now < 2 ^ 63 }
-        ensures fired { result ≡ option_map (λ (t : Timer). record { «module» = t.«module»; id = t.id }) (firing now self.old) }
+        ensures fired { result ≡ option_map (λ (t : Timer). record { «module» = t.«module»; id = t.id })
+            (firing now self.old) }
         ensures timers { self.new ≡ after_firing now self.old }
         ensures order { InOrder self.old }
     {
@@ -148,7 +156,8 @@ impl Timers {
 
     /// A timer by its place in the order in which they fire, counted from 0.
     pub fn row(&self, i: usize) -> Option<TimerRow>
-        ensures row { result ≡ option_map (λ (t : Timer). record { «module» = t.«module»; id = t.id; due = t.due }) (slice_get self.now i) }
+        ensures row { result ≡ option_map (λ (t : Timer). record { «module» = t.«module»; id = t.id; due = t.due })
+            (slice_get self.now i) }
         ensures none { (result ≡ None) ↔ (length self.now ≤ i) }
         ensures order { InOrder self.now }
         ensures limit { length self.now ≤ timer_limit }
