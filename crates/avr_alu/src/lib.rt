@@ -14,8 +14,6 @@ mod logic;
 mod mul;
 mod one;
 mod sum;
-#[cfg(test)]
-mod tests;
 mod word;
 
 pub use bits::{is_set, with_bit};

@@ -1,6 +1,7 @@
 pub mod Apart
 pub mod Encodable
 pub mod Exact
+pub mod Length
 pub mod Listed
 pub mod Outcome
 pub mod Place

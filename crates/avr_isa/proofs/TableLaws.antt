@@ -4,10 +4,12 @@ use Rattle.avr_isa.specs.Table.{Form, one_word, two_words, Reads, Row, word_coun
 use Rattle.avr_isa.specs.Decoded.{decoded}
 use Rattle.avr_isa.specs.Operands.{IsEncodable}
 use Rattle.avr_isa.specs.Laws.{AreWords}
+use Rattle.avr_isa.specs.Place.{second_word}
 use Rattle.avr_isa.specs.declared.instruction.Instr.{Instr}
 use Prim.Native.Char.{Char}
 pub use Rattle.avr_isa.proofs.Exact.{rows_are_unique, decodes_rows, refuses_undefined, refuses_cut_short, decoded-row, row-decoded}
 pub use Rattle.avr_isa.proofs.Encodable.{rows_are_encodable, one_word_stands_alone}
+pub use Rattle.avr_isa.proofs.Length.{row_length}
 pub use Rattle.avr_isa.proofs.Unique.{words_are_unique}
 
 read_count : (form : Form) (at : Char → ℕ) (second : Option ℕ) (i : Instr) (n : ℕ) → Reads form at second i n → (1 ≤ n) × (n ≤ word_count second)
@@ -23,6 +25,10 @@ row_count first second i n row = read_count row.0.form _ second i n row.2
 
 pub decoded_count : (first : ℕ) (second : Option ℕ) (i : Instr) (n : ℕ) → decoded first second ≡ Ok (i, n) → (1 ≤ n) × (n ≤ word_count second)
 decoded_count first second i n e = row_count first second i n (row-decoded first second i n e)
+
+-- what is decoded has as many words as the instruction
+pub decoded_length : (first : ℕ) (second : Option ℕ) (i : Instr) (n : ℕ) → decoded first second ≡ Ok (i, n) → n ≡ word_count (second_word i)
+decoded_length first second i n e = row_length first second i n (row-decoded first second i n e)
 
 -- what is decoded has its operands in range
 pub decoded_is_encodable : (first : ℕ) (second : Option ℕ) (i : Instr) (n : ℕ) → AreWords first second → decoded first second ≡ Ok (i, n) → IsEncodable i

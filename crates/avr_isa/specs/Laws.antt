@@ -1,6 +1,7 @@
 -- What holds of the table as a whole.
 use Rattle.std.specs.Prelude.{◌≡◌, ◌==◌, ◌^◌, ◌<◌, ◌↔◌, ℕ, Option, None, Ok, Err, if◌then◌else◌, IfSome}
-use Rattle.avr_isa.specs.Table.{Row, HasNoRow, HasSecondWord}
+use Rattle.avr_isa.specs.Table.{Row, HasNoRow, HasSecondWord, word_count}
+use Rattle.avr_isa.specs.Place.{second_word}
 use Rattle.avr_isa.specs.Operands.{IsEncodable}
 use Rattle.avr_isa.specs.Decoded.{decoded}
 use Rattle.avr_isa.specs.declared.instruction.Instr.{Instr}
@@ -13,6 +14,10 @@ AreWords first second = (first < 2 ^ 16) × IfSome second (λ k. k < 2 ^ 16)
 -- words have at most one row
 abbrev pub RowsAreUnique : Type 0
 RowsAreUnique = (first : ℕ) (second : Option ℕ) (i j : Instr) (n m : ℕ) → Row first second i n → Row first second j m → (i ≡ j) × (n ≡ m)
+
+-- how many words there are is told by the instruction
+abbrev pub LengthsAreTheRows : Type 0
+LengthsAreTheRows = (first : ℕ) (second : Option ℕ) (i : Instr) (n : ℕ) → Row first second i n → n ≡ word_count (second_word i)
 
 -- the instruction of words has its operands in range
 abbrev pub RowsAreEncodable : Type 0

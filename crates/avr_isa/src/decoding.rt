@@ -1,10 +1,11 @@
 //! From words to the instruction.
-#![tactic(auto, using(crate::proofs::Outcome::outcomes, crate::proofs::Encodable::encodable))]
+#![tactic(auto, using(crate::proofs::Outcome::outcomes, crate::proofs::Length::outcome_length, crate::proofs::Encodable::encodable))]
 
 ghost use Rattle.std.specs.Prelude.{◌≡◌, ◌↔◌, ◌≤◌, ℕ, IfOk};
 ghost use Rattle.avr_isa.specs.declared.instruction.Instr.{Instr};
 ghost use Rattle.avr_isa.specs.Decoded.{decoded};
 ghost use Rattle.avr_isa.specs.Operands.{IsEncodable};
+ghost use Rattle.avr_isa.specs.Place.{second_word};
 ghost use Rattle.avr_isa.specs.Table.{HasNoRow, HasSecondWord, IsDecoded, Row, word_count};
 
 use crate::first_word::{FirstWord, first_word};
@@ -18,10 +19,12 @@ pub fn decode(w0: u16, w1: Option<u16>) -> Result<(Instr, u8), DecodeError>
     ensures undefined { (result ≡ Err (DecodeError.Undefined w0)) ↔ HasNoRow w0 }
     ensures needs_second { (result ≡ Err DecodeError.NeedsSecond) ↔ ((w1 ≡ None) × HasSecondWord w0) }
 
-    // The same as one equation; and that `encode` takes what is decoded, and the words are there.
+    // The same as one equation; and that `encode` takes what is decoded, that the words are there, and how many the
+    // instruction has.
     ensures value { result ≡ decoded w0 w1 }
     ensures encodable { IfOk result (λ found. IsEncodable found.0) }
     ensures count { IfOk result (λ found. (1 ≤ found.1) × (found.1 ≤ word_count w1)) }
+    ensures length { IfOk result (λ found. found.1 ≡ word_count (second_word found.0)) }
 {
     outcome(w0, w1)
 }

@@ -7,7 +7,7 @@ use thiserror::Error;
 ///
 /// A register is its number, a pair of registers is its lower one. Addresses and offsets count words,
 /// but `Lds` and `Sts` name a byte of the data space. A relative offset counts from the next word.
-#[derive(Clone, Copy, PartialEq)]
+#[derive(Clone, Copy)]
 pub enum Instr {
     Nop,
     Movw(u8, u8),

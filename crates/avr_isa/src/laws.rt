@@ -1,6 +1,6 @@
 //! Laws of the instruction table. Each is the contract of a function that does nothing.
 
-ghost use Rattle.avr_isa.specs.Laws.{DecodesRows, OneWordStandsAlone, RefusesCutShort, RefusesUndefined, RowsAreEncodable, RowsAreUnique, WordsAreUnique};
+ghost use Rattle.avr_isa.specs.Laws.{DecodesRows, LengthsAreTheRows, OneWordStandsAlone, RefusesCutShort, RefusesUndefined, RowsAreEncodable, RowsAreUnique, WordsAreUnique};
 
 /// Words have at most one row of the table.
 pub fn rows_are_unique()
@@ -10,6 +10,11 @@ pub fn rows_are_unique()
 /// An instruction of one word is the same whatever word follows.
 pub fn one_word_stands_alone()
     ensures { OneWordStandsAlone }
+{}
+
+/// The number of words of an instruction is its own: two where it has a second word, else one.
+pub fn lengths_are_the_rows()
+    ensures { LengthsAreTheRows }
 {}
 
 /// The operands of an instruction that words stand for are in their row's ranges.

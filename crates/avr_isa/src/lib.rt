@@ -13,13 +13,11 @@ mod first_word;
 mod formats;
 mod instruction;
 mod laws;
-#[cfg(test)]
-mod tests;
 
 pub use decoding::decode;
 pub use encoding::encode;
 pub use instruction::{DecodeError, Instr};
 pub use laws::{
-    decoded_is_the_table, one_word_stands_alone, rows_are_encodable, rows_are_unique,
-    words_are_unique,
+    decoded_is_the_table, lengths_are_the_rows, one_word_stands_alone, rows_are_encodable,
+    rows_are_unique, words_are_unique,
 };

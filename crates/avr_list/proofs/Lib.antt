@@ -1,2 +1,7 @@
 pub mod Held
-pub mod Rows
+pub mod Unsealed
+pub mod Said
+pub mod Ranged
+pub mod Named
+pub mod Joined
+pub mod Telling

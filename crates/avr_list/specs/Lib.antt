@@ -2,3 +2,5 @@ pub mod Digits
 pub mod Operands
 pub mod Instructions
 pub mod Lines
+pub mod Laws
+pub mod Widths

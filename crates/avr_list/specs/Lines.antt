@@ -1,7 +1,7 @@
 -- The lines of a listing.
-use Rattle.std.specs.Prelude.{ℕ, true, false, List, ◌++◌, codes, decimal}
+use Rattle.std.specs.Prelude.{ℕ, ◌+◌, true, false, List, [], ◌∷◌, ◌++◌, codes, decimal}
 use Rattle.unit_code.specs.declared.unit.Unit.{Unit}
-use Rattle.unit_code.specs.declared.unit.Unit.TheVariants.{Plain, Store, Push, Pop, SpGroup, Reserve, Skip, Branch, Jump, LocalCall, KernelCall, SlotCall, SlotIndirect, Return}
+use Rattle.unit_code.specs.declared.unit.Unit.TheVariants.{Plain, Store, Load, Push, Pop, SpGroup, Reserve, Skip, Branch, Jump, LocalCall, KernelCall, SlotCall, SlotIndirect, Return}
 use Rattle.avr_list.specs.Digits.{word_digits}
 use Rattle.avr_list.specs.Instructions.{instruction_text}
 use Rattle.avr_list.specs.Operands.{register, target, with_operand, with_operands}
@@ -10,6 +10,7 @@ use Rattle.avr_list.specs.Operands.{register, target, with_operand, with_operand
 abbrev pub unit_text : Unit → List ℕ
 unit_text (Plain i) = instruction_text i
 unit_text (Store i) = instruction_text i
+unit_text (Load i) = instruction_text i
 unit_text (Skip i) = instruction_text i
 unit_text (Push r) = with_operand (codes "push") (register r)
 unit_text (Pop d) = with_operand (codes "pop") (register d)
@@ -29,3 +30,9 @@ unit_text Return = codes "ret"
 unfoldable pub listing_line : ℕ → ℕ → Unit → List ℕ
 listing_line number place u =
     decimal number ++ codes " " ++ word_digits place ++ codes " " ++ unit_text u ++ codes "\n"
+
+-- The lines of units in their order, of which the first has that number, each with the place of its first word.
+abbrev pub listing_from : ℕ → List Unit → List ℕ → List ℕ
+listing_from number [] places = []
+listing_from number (u ∷ us) [] = []
+listing_from number (u ∷ us) (place ∷ places) = listing_line number place u ++ listing_from (number + 1) us places

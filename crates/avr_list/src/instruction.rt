@@ -3,8 +3,10 @@
 
 ghost use Rattle.std.specs.Prelude.{◌≡◌, ◌≤◌, ◌+◌, ◌++◌};
 ghost use Rattle.arrayvec.specs.ArrayVec.{array_vec_len};
+ghost use Rattle.mote_base.specs.Lines.{line_bytes};
 ghost use Rattle.avr_isa.specs.Place.{place};
 ghost use Rattle.avr_list.specs.Instructions.{HasText, instruction_text};
+ghost use Rattle.avr_list.specs.Widths.{unit_width};
 
 use crate::operand::Operand::{Address, At, Behind, Lowered, Number, Raised, Register};
 use crate::operand::Pointer::{X, Y, Z};
@@ -18,10 +20,10 @@ use mote_base::Line;
 /// The instructions come in the order of the table of opcodes; each function takes the next lines, and passes the later ones
 /// on. Here are those of two registers, or of a register and a constant.
 pub fn add_instruction(line: &mut Line, instruction: &Instr)
-    requires room { array_vec_len line.old + 22 ≤ 256 }
+    requires room { array_vec_len line.old + unit_width ≤ line_bytes }
     requires text { HasText instruction.now }
     ensures items { line.new.items ≡ line.old.items ++ instruction_text instruction.now }
-    ensures len { array_vec_len line.new ≤ array_vec_len line.old + 22 }
+    ensures len { array_vec_len line.new ≤ array_vec_len line.old + unit_width }
 {
     match *instruction {
         Instr::Nop => add_text(line, b"nop"),
@@ -53,11 +55,11 @@ pub fn add_instruction(line: &mut Line, instruction: &Instr)
 
 // The loads and stores, and what comes later.
 fn add_from_loads(line: &mut Line, instruction: &Instr)
-    requires room { array_vec_len line.old + 22 ≤ 256 }
+    requires room { array_vec_len line.old + unit_width ≤ line_bytes }
     requires text { HasText instruction.now }
     requires further { 23 ≤ place instruction.now }
     ensures items { line.new.items ≡ line.old.items ++ instruction_text instruction.now }
-    ensures len { array_vec_len line.new ≤ array_vec_len line.old + 22 }
+    ensures len { array_vec_len line.new ≤ array_vec_len line.old + unit_width }
 {
     match *instruction {
         Instr::LddZ(d, q) => add_two(line, b"ldd", Register(d), Behind(Z, q)),
@@ -86,11 +88,11 @@ fn add_from_loads(line: &mut Line, instruction: &Instr)
 
 // The operations on one register, on a flag, a port or a bit, and what else comes later in the table.
 fn add_from_one_register(line: &mut Line, instruction: &Instr)
-    requires room { array_vec_len line.old + 22 ≤ 256 }
+    requires room { array_vec_len line.old + unit_width ≤ line_bytes }
     requires text { HasText instruction.now }
     requires further { 49 ≤ place instruction.now }
     ensures items { line.new.items ≡ line.old.items ++ instruction_text instruction.now }
-    ensures len { array_vec_len line.new ≤ array_vec_len line.old + 22 }
+    ensures len { array_vec_len line.new ≤ array_vec_len line.old + unit_width }
 {
     match *instruction {
         Instr::Com(d) => add_one(line, b"com", Register(d)),

@@ -7,10 +7,10 @@
 #![tactic(auto)]
 
 mod instruction;
+mod laws;
 mod line;
 mod operand;
-#[cfg(test)]
-mod tests;
 mod text;
 
+pub use laws::{lines_tell, seal_is_unseen};
 pub use line::list_line;

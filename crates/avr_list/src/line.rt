@@ -2,8 +2,10 @@
 
 ghost use Rattle.std.specs.Prelude.{◌≡◌, ◌≤◌, ◌+◌, ◌++◌, []};
 ghost use Rattle.arrayvec.specs.ArrayVec.{array_vec_len};
+ghost use Rattle.mote_base.specs.Lines.{line_bytes};
 ghost use Rattle.unit_code.specs.Proper.{IsOfKind};
 ghost use Rattle.avr_list.specs.Lines.{listing_line, unit_text};
+ghost use Rattle.avr_list.specs.Widths.{unit_width};
 
 use crate::instruction::add_instruction;
 use crate::operand::Operand::{Number, Register, Target};
@@ -29,14 +31,15 @@ pub fn list_line(number: u16, place: u16, unit: &Unit, line: &mut Line)
 
 // Adds what a unit is.
 fn add_unit(line: &mut Line, unit: &Unit)
-    requires room { array_vec_len line.old + 22 ≤ 256 }
+    requires room { array_vec_len line.old + unit_width ≤ line_bytes }
     requires kind { IsOfKind unit.now }
     ensures items { line.new.items ≡ line.old.items ++ unit_text unit.now }
-    ensures len { array_vec_len line.new ≤ array_vec_len line.old + 22 }
+    ensures len { array_vec_len line.new ≤ array_vec_len line.old + unit_width }
 {
     match unit {
         Unit::Plain(instruction) => add_instruction(line, instruction),
         Unit::Store(instruction) => add_instruction(line, instruction),
+        Unit::Load(instruction) => add_instruction(line, instruction),
         Unit::Skip(instruction) => add_instruction(line, instruction),
         Unit::Push(r) => add_one(line, b"push", Register(*r)),
         Unit::Pop(d) => add_one(line, b"pop", Register(*d)),

@@ -2,7 +2,9 @@
 
 ghost use Rattle.std.specs.Prelude.{◌≡◌, ◌≤◌, ◌+◌, ◌++◌, length, decimal};
 ghost use Rattle.arrayvec.specs.ArrayVec.{array_vec_len};
+ghost use Rattle.mote_base.specs.Lines.{line_bytes};
 ghost use Rattle.avr_list.specs.Operands.{operand_text, pointer_text, with_operand, with_operands};
+ghost use Rattle.avr_list.specs.Widths.{name_width, number_width, one_width, operand_width, unit_width};
 
 use crate::text::{add_number, add_text, add_word};
 use mote_base::Line;
@@ -38,7 +40,7 @@ pub enum Operand {
 
 // Adds the letter of a pointer.
 fn add_pointer(line: &mut Line, pointer: Pointer)
-    requires { array_vec_len line.old + 1 ≤ 256 }
+    requires { array_vec_len line.old + 1 ≤ line_bytes }
     ensures items { line.new.items ≡ line.old.items ++ pointer_text pointer }
     ensures len { array_vec_len line.new ≡ array_vec_len line.old + 1 }
 {
@@ -51,10 +53,10 @@ fn add_pointer(line: &mut Line, pointer: Pointer)
 
 // Adds what stands before an operand's number, and the number.
 fn add_marked(line: &mut Line, mark: &[u8], number: u16)
-    requires room { array_vec_len line.old + 6 ≤ 256 }
+    requires room { array_vec_len line.old + 1 + number_width ≤ line_bytes }
     requires short { length mark.now ≤ 1 }
     ensures items { line.new.items ≡ line.old.items ++ mark.now ++ decimal number }
-    ensures len { array_vec_len line.new ≤ array_vec_len line.old + 6 }
+    ensures len { array_vec_len line.new ≤ array_vec_len line.old + 1 + number_width }
 {
     add_text(line, mark);
     add_number(line, number);
@@ -62,9 +64,9 @@ fn add_marked(line: &mut Line, mark: &[u8], number: u16)
 
 // Adds an operand.
 fn add_operand(line: &mut Line, operand: Operand)
-    requires { array_vec_len line.old + 7 ≤ 256 }
+    requires { array_vec_len line.old + operand_width ≤ line_bytes }
     ensures items { line.new.items ≡ line.old.items ++ operand_text operand }
-    ensures len { array_vec_len line.new ≤ array_vec_len line.old + 7 }
+    ensures len { array_vec_len line.new ≤ array_vec_len line.old + operand_width }
 {
     match operand {
         Operand::Register(register) => add_marked(line, b"r", u16::from(register)),
@@ -92,10 +94,10 @@ fn add_operand(line: &mut Line, operand: Operand)
 
 /// Adds an instruction that has one operand.
 pub fn add_one(line: &mut Line, name: &[u8], operand: Operand)
-    requires room { array_vec_len line.old + 14 ≤ 256 }
-    requires short { length name.now ≤ 6 }
+    requires room { array_vec_len line.old + one_width ≤ line_bytes }
+    requires short { length name.now ≤ name_width }
     ensures items { line.new.items ≡ line.old.items ++ with_operand name.now (operand_text operand) }
-    ensures len { array_vec_len line.new ≤ array_vec_len line.old + 14 }
+    ensures len { array_vec_len line.new ≤ array_vec_len line.old + one_width }
 {
     add_text(line, name);
     add_text(line, b" ");
@@ -104,10 +106,10 @@ pub fn add_one(line: &mut Line, name: &[u8], operand: Operand)
 
 /// Adds an instruction that has two operands.
 pub fn add_two(line: &mut Line, name: &[u8], first: Operand, second: Operand)
-    requires room { array_vec_len line.old + 22 ≤ 256 }
-    requires short { length name.now ≤ 6 }
+    requires room { array_vec_len line.old + unit_width ≤ line_bytes }
+    requires short { length name.now ≤ name_width }
     ensures items { line.new.items ≡ line.old.items ++ with_operands name.now (operand_text first) (operand_text second) }
-    ensures len { array_vec_len line.new ≤ array_vec_len line.old + 22 }
+    ensures len { array_vec_len line.new ≤ array_vec_len line.old + unit_width }
 {
     add_one(line, name, first);
     add_text(line, b",");

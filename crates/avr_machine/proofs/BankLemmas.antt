@@ -18,7 +18,8 @@ place_in_bank d k below = omega arith
 word_in_bank : (d k : ℕ) → k < bank_words → (bank_start d + k - banks_start) % bank_words ≡ k
 word_in_bank d k below = omega arith
 
-word_at-bank : (banks : Banks) (d k : ℕ) → k < bank_words
+-- a word of a bank
+pub word_at-bank : (banks : Banks) (d k : ℕ) → k < bank_words
     → word_at banks (bank_start d + k) ≡ slice_index (slice_index_or banks d []) k
 unfolding word_at
 word_at-bank banks d k below =

@@ -2,9 +2,10 @@
 use Rattle.std.specs.Prelude.{ℕ, ◌+◌, ◌≡◌, ◌≢◌, ◌==◌, ◌||◌, IsTrue, List, [], ◌∷◌}
 use Rattle.avr_isa.specs.declared.instruction.Instr.{Instr}
 use Rattle.avr_isa.specs.declared.instruction.Instr.TheVariants.{Cpse, LdZInc, LdZDec, LpmZ, LpmZInc, ElpmZ, ElpmZInc, LdYInc, LdYDec, LdXInc, LdXDec, StZInc, StZDec, StYInc, StYDec, StXInc, StXDec, Ijmp, Icall, Ret, Reti, Sleep, Break, Wdr, LpmR0, ElpmR0, Spm, Jmp, Call, Cbi, Sbic, Sbi, Sbis, In, Out, Rjmp, Rcall, Brbs, Brbc, Sbrc, Sbrs}
-use Rattle.avr_machine.specs.Processor.{Processor, x, y, z}
+use Rattle.mote_layout.specs.Memory.{pointer_x, pointer_y, pointer_z, spl_port, sph_port, sreg_port}
+use Rattle.avr_machine.specs.Processor.{Processor}
 use Rattle.avr_machine.specs.DataRead.{IsInMemory}
-use Rattle.avr_machine.specs.Write.{Write, set_register, set_pair, set_byte, set_port, set_sp, set_sreg, set_pc, spl_port, sph_port, sreg_port}
+use Rattle.avr_machine.specs.Write.{Write, set_register, set_pair, set_byte, set_port, set_sp, set_sreg, set_pc}
 use Rattle.avr_machine.specs.Effect.{writes}
 
 -- a register that is no part of a pointer; the manual leaves undefined what a load or store of one does
@@ -44,18 +45,18 @@ IsStraight (Sbi A b) = ⊥
 IsStraight (Sbis A b) = ⊥
 IsStraight (In d A) = IsTrue (A == spl_port || (A == sph_port || A == sreg_port))
 IsStraight (Out r A) = A ≡ sreg_port
-IsStraight (LdXInc d) = IsApartFrom x d
-IsStraight (LdXDec d) = IsApartFrom x d
-IsStraight (LdYInc d) = IsApartFrom y d
-IsStraight (LdYDec d) = IsApartFrom y d
-IsStraight (LdZInc d) = IsApartFrom z d
-IsStraight (LdZDec d) = IsApartFrom z d
-IsStraight (StXInc r) = IsApartFrom x r
-IsStraight (StXDec r) = IsApartFrom x r
-IsStraight (StYInc r) = IsApartFrom y r
-IsStraight (StYDec r) = IsApartFrom y r
-IsStraight (StZInc r) = IsApartFrom z r
-IsStraight (StZDec r) = IsApartFrom z r
+IsStraight (LdXInc d) = IsApartFrom pointer_x d
+IsStraight (LdXDec d) = IsApartFrom pointer_x d
+IsStraight (LdYInc d) = IsApartFrom pointer_y d
+IsStraight (LdYDec d) = IsApartFrom pointer_y d
+IsStraight (LdZInc d) = IsApartFrom pointer_z d
+IsStraight (LdZDec d) = IsApartFrom pointer_z d
+IsStraight (StXInc r) = IsApartFrom pointer_x r
+IsStraight (StXDec r) = IsApartFrom pointer_x r
+IsStraight (StYInc r) = IsApartFrom pointer_y r
+IsStraight (StYDec r) = IsApartFrom pointer_y r
+IsStraight (StZInc r) = IsApartFrom pointer_z r
+IsStraight (StZDec r) = IsApartFrom pointer_z r
 IsStraight _ = Unit {0}
 
 -- the instructions that can pass over the next one
@@ -92,6 +93,6 @@ AreInside (set_sp address ∷ rest) = AreInside rest
 AreInside (set_sreg value ∷ rest) = AreInside rest
 AreInside (set_pc address ∷ rest) = AreInside rest
 
--- the instruction stores in the memory alone, 0x0100 to 0x10FF
+-- the instruction stores in the memory alone
 unfoldable pub StoresInside : Instr → Processor → Type 0
 StoresInside i p = AreInside (writes i 0 p)

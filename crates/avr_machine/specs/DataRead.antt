@@ -3,8 +3,8 @@ use Rattle.std.specs.Prelude.{ℕ, ◌-◌, ◌≤◌, ◌==◌, ◌&&◌, nat_l
 use Rattle.mote_layout.specs.Memory.{register_count, spl, sph, sreg, ram_start, ram_end}
 use Rattle.avr_machine.specs.Processor.{Processor, register, low, high}
 
--- The data space begins with the registers; SP and SREG stand among the I/O addresses, and the internal SRAM at
--- 0x0100 to 0x10FF ("SRAM Data Memory" in the data sheet). That everything else reads as 0 is our own rule.
+-- The data space begins with the registers; SP and SREG stand among the I/O addresses, and the internal SRAM
+-- behind them ("SRAM Data Memory" in the data sheet). That everything else reads as 0 is our own rule.
 unfoldable pub data_read : Processor → ℕ → ℕ
 data_read p address =
     if nat_lt address register_count then register p address

@@ -16,7 +16,8 @@ use Rattle.avr_alu.specs.Logic.{logic_value, logic_flags}
 use Rattle.avr_alu.specs.One.{one_value, one_flags}
 use Rattle.avr_alu.specs.Mul.{mul_value, mul_flags}
 use Rattle.avr_alu.specs.Word.{word_add_value, word_add_flags, word_sub_value, word_sub_flags}
-use Rattle.avr_machine.specs.Processor.{Processor, register, pair, low, high, x, y, z, carry, transfer, raised, lowered}
+use Rattle.mote_layout.specs.Memory.{first_port, pointer_x, pointer_y, pointer_z}
+use Rattle.avr_machine.specs.Processor.{Processor, register, pair, low, high, carry, transfer, transfer_bit, raised, lowered}
 use Rattle.avr_machine.specs.DataRead.{data_read}
 use Rattle.avr_machine.specs.Write.{Write, set_register, set_pair, set_byte, set_port, set_sp, set_sreg, set_pc, written, after}
 
@@ -153,32 +154,32 @@ writes (Sbiw d K) over p =
     ∷ set_sreg (sreg_of (word_sub_flags (pair p d) K (flags_of p.sreg))) ∷ []
 writes (Bset s) over p = set_sreg (with_bit p.sreg s true) ∷ []
 writes (Bclr s) over p = set_sreg (with_bit p.sreg s false) ∷ []
-writes (Bst d b) over p = set_sreg (with_bit p.sreg 6 (is_set (register p d) b)) ∷ []
+writes (Bst d b) over p = set_sreg (with_bit p.sreg transfer_bit (is_set (register p d) b)) ∷ []
 writes (Bld d b) over p = set_register d (with_bit (register p d) b (transfer p)) ∷ []
 writes (Mov d r) over p = set_register d (register p r) ∷ []
 writes (Movw d r) over p = set_pair d (pair p r) ∷ []
 writes (Ldi d K) over p = set_register d K ∷ []
-writes (In d A) over p = set_register d (data_read p (A + 0x20)) ∷ []
+writes (In d A) over p = set_register d (data_read p (A + first_port)) ∷ []
 writes (Out r A) over p = set_port A (register p r) ∷ []
-writes (LdX d) over p = load_behind p x d 0
-writes (LdXInc d) over p = load_rising p x d
-writes (LdXDec d) over p = load_falling p x d
-writes (LddY d q) over p = load_behind p y d q
-writes (LdYInc d) over p = load_rising p y d
-writes (LdYDec d) over p = load_falling p y d
-writes (LddZ d q) over p = load_behind p z d q
-writes (LdZInc d) over p = load_rising p z d
-writes (LdZDec d) over p = load_falling p z d
+writes (LdX d) over p = load_behind p pointer_x d 0
+writes (LdXInc d) over p = load_rising p pointer_x d
+writes (LdXDec d) over p = load_falling p pointer_x d
+writes (LddY d q) over p = load_behind p pointer_y d q
+writes (LdYInc d) over p = load_rising p pointer_y d
+writes (LdYDec d) over p = load_falling p pointer_y d
+writes (LddZ d q) over p = load_behind p pointer_z d q
+writes (LdZInc d) over p = load_rising p pointer_z d
+writes (LdZDec d) over p = load_falling p pointer_z d
 writes (Lds d k) over p = set_register d (data_read p k) ∷ []
-writes (StX r) over p = store_behind p x r 0
-writes (StXInc r) over p = store_rising p x r
-writes (StXDec r) over p = store_falling p x r
-writes (StdY r q) over p = store_behind p y r q
-writes (StYInc r) over p = store_rising p y r
-writes (StYDec r) over p = store_falling p y r
-writes (StdZ r q) over p = store_behind p z r q
-writes (StZInc r) over p = store_rising p z r
-writes (StZDec r) over p = store_falling p z r
+writes (StX r) over p = store_behind p pointer_x r 0
+writes (StXInc r) over p = store_rising p pointer_x r
+writes (StXDec r) over p = store_falling p pointer_x r
+writes (StdY r q) over p = store_behind p pointer_y r q
+writes (StYInc r) over p = store_rising p pointer_y r
+writes (StYDec r) over p = store_falling p pointer_y r
+writes (StdZ r q) over p = store_behind p pointer_z r q
+writes (StZInc r) over p = store_rising p pointer_z r
+writes (StZDec r) over p = store_falling p pointer_z r
 writes (Sts r k) over p = set_byte k (register p r) ∷ []
 writes (Push r) over p = pushed p (register p r)
 writes (Pop d) over p = set_sp (raised p.sp) ∷ set_register d (popped p) ∷ []

@@ -4,4 +4,7 @@ pub mod Write
 pub mod Effect
 pub mod Conditions
 pub mod Flash
+pub mod Modes
+pub mod Bytes
+pub mod Laws
 pub mod Step

@@ -27,22 +27,18 @@ high word = word / 256
 abbrev pub pair : Processor → ℕ → ℕ
 pair p d = register p d + 256 * register p (d + 1)
 
--- the lower registers of the pointers X, Y and Z
-abbrev pub x : ℕ
-x = 26
+-- the flags C and T of SREG, by the numbers of their bits
+abbrev pub carry_bit : ℕ
+carry_bit = 0
 
-abbrev pub y : ℕ
-y = 28
+abbrev pub transfer_bit : ℕ
+transfer_bit = 6
 
-abbrev pub z : ℕ
-z = 30
-
--- the flags C and T of SREG
 abbrev pub carry : Processor → Bool
-carry p = is_set p.sreg 0
+carry p = is_set p.sreg carry_bit
 
 abbrev pub transfer : Processor → Bool
-transfer p = is_set p.sreg 6
+transfer p = is_set p.sreg transfer_bit
 
 -- an address or a pointer after it rose or fell by one, modulo 65536
 abbrev pub raised : ℕ → ℕ

@@ -1,6 +1,6 @@
 -- What one instruction can change, and the processor after a list of changes.
 use Rattle.std.specs.Prelude.{ℕ, ◌+◌, ◌-◌, ◌*◌, ◌==◌, List, [], ◌∷◌, slice_set, if◌then◌else◌}
-use Rattle.mote_layout.specs.Memory.{ram_start}
+use Rattle.mote_layout.specs.Memory.{ram_start, spl_port, sph_port, sreg_port}
 use Rattle.avr_machine.specs.Processor.{Processor, low, high, with_pc}
 
 -- A change: of a register, of a pair of registers by its lower one, of the byte at an address of the memory, of
@@ -13,16 +13,6 @@ pub data Write : Type 0 where
   set_sp : ℕ → Write
   set_sreg : ℕ → Write
   set_pc : ℕ → Write
-
--- the ports of SP's low and high byte and of SREG: IN and OUT count the I/O addresses from 0x20
-abbrev pub spl_port : ℕ
-spl_port = 0x3D
-
-abbrev pub sph_port : ℕ
-sph_port = 0x3E
-
-abbrev pub sreg_port : ℕ
-sreg_port = 0x3F
 
 -- The processor after one change. All else stays as it was.
 abbrev pub written : Write → Processor → Processor

@@ -11,13 +11,13 @@ mod arithmetic;
 mod cpu;
 mod flash;
 mod flow;
+mod laws;
 mod parts;
 mod plain;
 mod step;
-#[cfg(test)]
-mod tests;
 mod transfer;
 
 pub use cpu::Cpu;
 pub use flash::Flash;
+pub use laws::{bank_laws, counter_laws, memory_laws, mode_laws, return_laws};
 pub use step::Stepped;

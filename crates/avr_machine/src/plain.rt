@@ -8,9 +8,9 @@ ghost use Rattle.avr_machine.specs.Conditions.{IsStraight, StoresInside};
 ghost use Rattle.avr_machine.specs.Effect.{effect};
 
 use crate::cpu::Cpu;
-use crate::parts::{X, Y, Z};
 use avr_alu::{Logic, Mul, One};
 use avr_isa::Instr;
+use mote_layout::{POINTER_X, POINTER_Y, POINTER_Z};
 
 impl Cpu {
     /// Runs an instruction that leads to the next one. PC stays.
@@ -25,7 +25,7 @@ impl Cpu {
     {
         match *i {
             Instr::Nop => {}
-            Instr::Movw(d, r) => self.set_pair(d, self.pair(r)),
+            Instr::Movw(d, r) => self.write_pair(d, self.pair(r)),
             Instr::Muls(d, r) => self.multiply(Mul::S, d, r),
             Instr::Mulsu(d, r) => self.multiply(Mul::SU, d, r),
             Instr::Fmul(d, r) => self.multiply(Mul::FU, d, r),
@@ -40,7 +40,7 @@ impl Cpu {
             Instr::And(d, r) => self.combine(Logic::And, d, self.register(r)),
             Instr::Eor(d, r) => self.combine(Logic::Eor, d, self.register(r)),
             Instr::Or(d, r) => self.combine(Logic::Or, d, self.register(r)),
-            Instr::Mov(d, r) => self.set_register(d, self.register(r)),
+            Instr::Mov(d, r) => self.write_register(d, self.register(r)),
             Instr::Cpi(d, constant) => self.compare(d, constant, false),
             Instr::Sbci(d, constant) => self.subtract(d, constant, true),
             Instr::Subi(d, constant) => self.subtract(d, constant, false),
@@ -59,30 +59,30 @@ impl Cpu {
         ensures { self.new ≡ effect i.now 0 self.old }
     {
         match *i {
-            Instr::LddZ(d, q) => self.load_behind(Z, d, q),
-            Instr::LddY(d, q) => self.load_behind(Y, d, q),
-            Instr::StdZ(r, q) => self.store_behind(Z, r, q),
-            Instr::StdY(r, q) => self.store_behind(Y, r, q),
+            Instr::LddZ(d, q) => self.load_behind(POINTER_Z, d, q),
+            Instr::LddY(d, q) => self.load_behind(POINTER_Y, d, q),
+            Instr::StdZ(r, q) => self.store_behind(POINTER_Z, r, q),
+            Instr::StdY(r, q) => self.store_behind(POINTER_Y, r, q),
             Instr::Lds(d, address) => self.load(d, address),
-            Instr::LdZInc(d) => self.load_rising(Z, d),
-            Instr::LdZDec(d) => self.load_falling(Z, d),
-            Instr::LdYInc(d) => self.load_rising(Y, d),
-            Instr::LdYDec(d) => self.load_falling(Y, d),
-            Instr::LdX(d) => self.load_behind(X, d, 0),
-            Instr::LdXInc(d) => self.load_rising(X, d),
-            Instr::LdXDec(d) => self.load_falling(X, d),
+            Instr::LdZInc(d) => self.load_rising(POINTER_Z, d),
+            Instr::LdZDec(d) => self.load_falling(POINTER_Z, d),
+            Instr::LdYInc(d) => self.load_rising(POINTER_Y, d),
+            Instr::LdYDec(d) => self.load_falling(POINTER_Y, d),
+            Instr::LdX(d) => self.load_behind(POINTER_X, d, 0),
+            Instr::LdXInc(d) => self.load_rising(POINTER_X, d),
+            Instr::LdXDec(d) => self.load_falling(POINTER_X, d),
             Instr::Pop(d) => {
                 let byte = self.pop();
-                self.set_register(d, byte);
+                self.write_register(d, byte);
             }
             Instr::Sts(r, address) => self.store(address, r),
-            Instr::StZInc(r) => self.store_rising(Z, r),
-            Instr::StZDec(r) => self.store_falling(Z, r),
-            Instr::StYInc(r) => self.store_rising(Y, r),
-            Instr::StYDec(r) => self.store_falling(Y, r),
-            Instr::StX(r) => self.store_behind(X, r, 0),
-            Instr::StXInc(r) => self.store_rising(X, r),
-            Instr::StXDec(r) => self.store_falling(X, r),
+            Instr::StZInc(r) => self.store_rising(POINTER_Z, r),
+            Instr::StZDec(r) => self.store_falling(POINTER_Z, r),
+            Instr::StYInc(r) => self.store_rising(POINTER_Y, r),
+            Instr::StYDec(r) => self.store_falling(POINTER_Y, r),
+            Instr::StX(r) => self.store_behind(POINTER_X, r, 0),
+            Instr::StXInc(r) => self.store_rising(POINTER_X, r),
+            Instr::StXDec(r) => self.store_falling(POINTER_X, r),
             Instr::Push(r) => self.push(self.register(r)),
             _ => self.plain_from_one_register(i),
         }
@@ -111,7 +111,7 @@ impl Cpu {
             Instr::Mul(d, r) => self.multiply(Mul::U, d, r),
             Instr::In(d, port) => self.input(d, port),
             Instr::Out(r, port) => self.output(r, port),
-            Instr::Ldi(d, constant) => self.set_register(d, constant),
+            Instr::Ldi(d, constant) => self.write_register(d, constant),
             Instr::Bld(d, bit) => self.put_bit(d, bit),
             Instr::Bst(d, bit) => self.keep_bit(d, bit),
             _ => unreachable!(),

@@ -68,6 +68,37 @@ alone_running (Some run) k r = alone_at (next_unit r run) run k r
 pub act_changes_alone : (k : KernelState) (r : RunnerState) → (act k r).kernel ≡ with_both k (act k r).kernel.processor (act k r).kernel.queues
 act_changes_alone k r = alone_running k.running k r
 
+-- A unit changes no bank.
+
+banks_store : (b : Bool) (i : Instr) (k : KernelState) (r : RunnerState) → (act_store b i k r).runner.banks ≡ r.banks
+banks_store true i k r = refl
+banks_store false i k r = refl
+
+banks_return : (b : Bool) (k : KernelState) (r : RunnerState) → (act_return b k r).runner.banks ≡ r.banks
+banks_return true k r = refl
+banks_return false k r = refl
+
+banks_call : (o : Option Service) (run : Running) (k : KernelState) (r : RunnerState) → (act_call o run k r).runner.banks ≡ r.banks
+banks_call (Some PostShort) run k r = refl
+banks_call (Some Say) run k r = refl
+banks_call (Some MyId) run k r = refl
+banks_call None run k r = refl
+
+banks_at : (o : Option Unit) (run : Running) (k : KernelState) (r : RunnerState) → (act_at o run k r).runner.banks ≡ r.banks
+banks_at None run k r = refl
+banks_at (Some (Plain i)) run k r = refl
+banks_at (Some (Store i)) run k r = banks_store (may_store k run (store_address k.processor)) i k r
+banks_at (Some (KernelCall n)) run k r = banks_call (service_of n) run k r
+banks_at (Some Return) run k r = banks_return (k.processor.sp == run.base) k r
+banks_at (Some _) run k r = refl
+
+banks_running : (o : Option Running) (k : KernelState) (r : RunnerState) → (act_running o k r).runner.banks ≡ r.banks
+banks_running None k r = refl
+banks_running (Some run) k r = banks_at (next_unit r run) run k r
+
+pub act_keeps_banks : (k : KernelState) (r : RunnerState) → (act k r).runner.banks ≡ r.banks
+act_keeps_banks k r = banks_running k.running k r
+
 -- A unit posts one message at most.
 
 more_where : (b : Bool) (m : Message) (k : KernelState) → length (in_order (post_where b m k).queues) ≤ length (in_order k.queues) + 1

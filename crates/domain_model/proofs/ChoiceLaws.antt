@@ -1,14 +1,17 @@
 -- What each choice of a turn says of the state holds where it is chosen.
-use Rattle.std.proofs.Common.{◌≡◌, ◌≢◌, ◌<◌, ◌==◌, nat_le, slice_get, refl, Bool, true, false, Option, Some, None, List, [], ◌∷◌}
-use Rattle.std.proofs.lemmas.Bool.{leb-true, leb-false, eqb-true, eqb-false}
+use Rattle.std.proofs.Common.{◌≡◌, ◌≢◌, ℕ, ◌<◌, ◌≤◌, ◌==◌, nat_le, slice_get, arith, ap, sym, subst, ◌∙◌, refl, Bool, true, false, Option, Some, None, List, [], ◌∷◌}
+use Rattle.std.proofs.lemmas.Bool.{leb-true, leb-false, eqb-true, eqb-false, le-leb, lt-leb, eq-eqb, ne_eqb}
+use Rattle.std.proofs.lemmas.Option.{none-some, same_Some}
 use Rattle.domain_model.specs.declared.event.Event.{Event}
 use Rattle.domain_model.specs.declared.handler.Running.{Running}
+use Rattle.domain_model.specs.declared.event.Choice.{Choice}
+use Rattle.domain_model.specs.declared.event.Choice.TheVariants.{Stays, Comes, Dispatches, Jumps, Idles, Budgets, Watches, Acts}
 use Rattle.domain_model.specs.declared.event.Turned.{Turned}
 use Rattle.domain_model.specs.declared.event.Turned.TheVariants.{More, EndIdle, EndBudget}
 use Rattle.mote_base.specs.Messages.{front}
 use Rattle.domain_model.specs.State.{Message, State}
 use Rattle.domain_model.specs.Turn.{choice, choose_message, choose_event, choose_outside, choose_unit, choose_inside, choose_running, choose_ended}
-use Rattle.domain_model.specs.Facts.{NoneDue, Facts}
+use Rattle.domain_model.specs.Facts.{NoneDue, Facts, ChoicesAreFounded}
 
 module _ (s : State) (live : s.ended ≡ More) where
   -- nothing is due now, and the first event is later
@@ -59,3 +62,58 @@ ended_facts s EndBudget h = λ e. absurd (cc)
 -- the facts of the turn that comes next
 pub choice_facts : (s : State) → Facts (choice s) s
 choice_facts s = ended_facts s s.ended refl
+
+-- A turn of which that is said comes next.
+
+stays_by : (s : State) (t : Turned) → t ≢ More → choose_ended t s ≡ Stays
+stays_by s More over = absurd (over refl)
+stays_by s EndIdle over = refl
+stays_by s EndBudget over = refl
+
+comes_by : (es : List Event) (e : Event) (now : ℕ) (waiting : Option Message) → slice_get es 0 ≡ Some e → e.time ≤ now → choose_outside es now waiting ≡ Comes e
+comes_by [] e now waiting first due = absurd (none-some e first)
+comes_by (x ∷ xs) e now waiting first due =
+    subst (λ (y : Event). choose_event (nat_le y.time now) y waiting ≡ Comes e) (sym (same_Some x e first))
+    (ap (λ (b : Bool). choose_event b e waiting) (le-leb e.time now due))
+
+dispatches_by : (es : List Event) (now : ℕ) (m : Message) → NoneDue es now → choose_outside es now (Some m) ≡ Dispatches
+dispatches_by [] now m none = refl
+dispatches_by (e ∷ es) now m none = ap (λ (b : Bool). choose_event b e (Some m)) (lt-leb e.time now none)
+
+jumps_by : (es : List Event) (e : Event) (now : ℕ) → slice_get es 0 ≡ Some e → now < e.time → choose_outside es now None ≡ Jumps e.time
+jumps_by [] e now first later = absurd (none-some e first)
+jumps_by (x ∷ xs) e now first later =
+    subst (λ (y : Event). choose_event (nat_le y.time now) y None ≡ Jumps e.time) (sym (same_Some x e first))
+    (ap (λ (b : Bool). choose_event b e None) (lt-leb e.time now later))
+
+-- in a run that goes on, outside a handler and in one
+outside_by : (s : State) → s.ended ≡ More → s.kernel.running ≡ None → choice s ≡ choose_outside s.events s.kernel.clock (front s.kernel.queues)
+outside_by s live outside = ap (λ (t : Turned). choose_ended t s) live ∙ ap (λ (o : Option Running). choose_running o s) outside
+
+inside_by : (s : State) (run : Running) → s.ended ≡ More → s.kernel.running ≡ Some run → choice s ≡ choose_inside (s.total == s.unit_limit) run s
+inside_by s run live inside = ap (λ (t : Turned). choose_ended t s) live ∙ ap (λ (o : Option Running). choose_running o s) inside
+
+left_by : (s : State) (run : Running) → s.ended ≡ More → s.kernel.running ≡ Some run → s.total ≢ s.unit_limit → choice s ≡ choose_unit (s.spent == s.handler_limit) run
+left_by s run live inside left = inside_by s run live inside ∙ ap (λ (b : Bool). choose_inside b run s) (ne_eqb s.total s.unit_limit left)
+
+pub chosen_by : (c : Choice) (s : State) → Facts c s → choice s ≡ c
+chosen_by Stays s f = stays_by s s.ended f
+chosen_by (Comes e) s f = outside_by s f.live f.outside ∙ comes_by s.events e s.kernel.clock (front s.kernel.queues) f.first f.due
+chosen_by Dispatches s f =
+    outside_by s f.live f.outside ∙ ap (λ (o : Option Message). choose_outside s.events s.kernel.clock o) f.first
+    ∙ dispatches_by s.events s.kernel.clock f.message f.none_due
+chosen_by (Jumps time) s f =
+    outside_by s f.live f.outside ∙ ap (λ (o : Option Message). choose_outside s.events s.kernel.clock o) f.none_waits
+    ∙ jumps_by s.events f.event s.kernel.clock f.first (omega (arith, f.later, f.time_of)) ∙ ap (λ (t : ℕ). Jumps t) f.time_of
+chosen_by Idles s f =
+    outside_by s f.live f.outside ∙ ap (λ (o : Option Message). choose_outside s.events s.kernel.clock o) f.none_waits
+    ∙ ap (λ (es : List Event). choose_outside es s.kernel.clock None) f.none
+chosen_by Budgets s f =
+    inside_by s f.run f.live f.running ∙ ap (λ (b : Bool). choose_inside b f.run s) (eq-eqb s.total s.unit_limit f.total)
+chosen_by (Watches run) s f =
+    left_by s run f.live f.running f.total ∙ ap (λ (b : Bool). choose_unit b run) (eq-eqb s.spent s.handler_limit f.spent)
+chosen_by (Acts run) s f =
+    left_by s run f.live f.running f.total ∙ ap (λ (b : Bool). choose_unit b run) (ne_eqb s.spent s.handler_limit f.spent)
+
+pub choices_are_founded : ChoicesAreFounded
+choices_are_founded s c = (λ next. subst (λ (x : Choice). Facts x s) next (choice_facts s), λ facts. chosen_by c s facts)

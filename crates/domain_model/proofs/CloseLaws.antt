@@ -2,7 +2,7 @@
 use Rattle.std.proofs.Common.{◌≡◌, ℕ, ◌≤◌, not, List, [], ◌∷◌, ◌++◌, length, refl, sym, ap, ◌∙◌, subst, arith, Option, Some, None}
 use Rattle.std.proofs.lemmas.Option.{none-some}
 use Rattle.std.proofs.lemmas.List.{length-append}
-use Rattle.mote_base.specs.Messages.{in_order, names}
+use Rattle.mote_base.specs.Messages.{in_order, names, unnamed}
 use Rattle.domain_model.specs.declared.handler.Running.{Running}
 use Rattle.domain_model.specs.declared.fault.FaultNote.{FaultNote}
 use Rattle.domain_model.specs.declared.fault.UnitEnd.{UnitEnd}
@@ -11,7 +11,7 @@ use Rattle.domain_model.specs.declared.line.TraceLine.{TraceLine}
 use Rattle.domain_model.specs.declared.line.TraceLine.TheVariants as line
 use Rattle.domain_model.specs.State.{Loaded, Message, KernelState, RunnerState}
 use Rattle.domain_model.specs.Act.{id_at}
-use Rattle.domain_model.specs.Turn.{module_named, without_domain, unnamed, emptied, ended, purged, handler_ended, close_module, close, settled, faulted}
+use Rattle.domain_model.specs.Turn.{module_named, without_domain, emptied, with_none_ending, purged, handler_ended, close_module, close, settled, faulted}
 use Rattle.domain_model.specs.Good.{GoodMachine, GoodEnding}
 use Rattle.domain_model.proofs.Kept.{filter_shorter}
 use Rattle.domain_model.proofs.ModuleLaws.{found, found_id, named, loaded_named, named_without, id_at_loaded, row_of_domain}
@@ -72,7 +72,7 @@ settled_rests (Fault note) run k r lines = from_ended k (faulted note run k r li
 
 -- the kernel without the module of the domain that ran
 abbrev pub gone : KernelState → ℕ → ℕ → KernelState
-gone k id domain = ended (purged (handler_ended k) id domain)
+gone k id domain = with_none_ending (purged (handler_ended k) id domain)
 
 module _ (k : KernelState) (r : RunnerState) (run : Running) (h : GoodMachine k r) (i : k.running ≡ Some run) where
   -- its id is found no more

@@ -22,7 +22,7 @@ use Rattle.domain_model.specs.Laws.{MayChange, KeepsOthers, MayChangeAtFault, Co
 use Rattle.domain_model.specs.Units.{Service, PostShort, Say, MyId, service_of}
 use Rattle.domain_model.specs.Facts.{IsActing}
 use Rattle.domain_model.proofs.ChoiceLaws.{choice_facts}
-use Rattle.domain_model.proofs.ActLaws.{running_good, store_in_memory, plain_alike, plain_memory, store_alike}
+use Rattle.domain_model.proofs.ActLaws.{running_good, store_in_memory, plain_alike, plain_memory, store_alike, act_keeps_banks}
 use Rattle.domain_model.proofs.CloseLaws.{settled_rests}
 use Rattle.domain_model.proofs.TurnLaws.{step_changes_alone, step_queues}
 
@@ -211,6 +211,11 @@ settled_keeps (Fault note) k run new r lines now h own = absurd (cc)
 settled_memory : (e : UnitEnd) (run : Running) (k : KernelState) (r : RunnerState) (lines : List TraceLine) → (settled e run k r lines).kernel.processor.memory ≡ k.processor.memory
 settled_memory e run k r lines = ap (λ (p : Processor). p.memory) (settled_rests e run k r lines).processor
 
+settled_runner : (e : UnitEnd) (run : Running) (k : KernelState) (r : RunnerState) (lines : List TraceLine) → e ≡ On → (settled e run k r lines).runner ≡ r
+settled_runner On run k r lines h = refl
+settled_runner Over run k r lines h = absurd (cc)
+settled_runner (Fault note) run k r lines h = absurd (cc)
+
 pub turn_confined : (s t : State) (lines : List TraceLine) → Good s → Turn s t lines → Confined s t
 turn_confined s t lines g turn = record {
   between = λ run e out.
@@ -221,6 +226,14 @@ turn_confined s t lines g turn = record {
       subst (λ (x : State). KeepsOthers s.kernel run x.kernel) (sym to)
       (settled_keeps turn.got.ending s.kernel run turn.got.kernel turn.got.runner turn.got.lines (_) (step.ending ∙ own.1)
       (step_keeps s.kernel s.runner turn.got run g.machine facts.running step out));
+  units = λ run e out.
+      let facts : IsActing run s = rw e at (choice_facts s) in
+      let step : UnitStep s.kernel s.runner turn.got = rw e at turn.may in
+      let to : t ≡ (made (Acts run) s turn.got).state = rw e at turn.to in
+      let own = own_running s.kernel.running s.kernel s.runner run g.machine facts.running facts.running out in
+      ap (λ (x : State). x.runner.banks) to
+      ∙ ap (λ (r : RunnerState). r.banks) (settled_runner turn.got.ending run turn.got.kernel turn.got.runner turn.got.lines (step.ending ∙ own.1))
+      ∙ ap (λ (r : RunnerState). r.banks) step.runner ∙ act_keeps_banks s.kernel s.runner;
   at_fault = λ run note e fault i differs.
       let step : UnitStep s.kernel s.runner turn.got = rw e at turn.may in
       let to : t ≡ (made (Acts run) s turn.got).state = rw e at turn.to in

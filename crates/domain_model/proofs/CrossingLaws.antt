@@ -151,5 +151,5 @@ crosses_bytes (Some old) (Some new) t memory h = h
 
 pub turn_crosses : (s t : State) (lines : List TraceLine) → Turn s t lines → Crosses s t
 turn_crosses s t lines turn =
-    leaves (Crosses s) (λ x memory same h. crosses_bytes s.kernel.running x.kernel.running x memory h) (choice s) (made (choice s) s turn.got).state t turn.to
+    leaves (Crosses s) (λ free x memory same h. crosses_bytes s.kernel.running x.kernel.running x memory h) (choice s) (made (choice s) s turn.got).state t turn.to
     (made_crosses (choice s) s turn.got (choice_facts s) turn.may)

@@ -144,5 +144,5 @@ fewer_bytes limit s memory same h = h
 -- a turn of a live state leaves fewer
 pub remaining_falls : (s t : State) (lines : List TraceLine) → Good s → s.ended ≡ More → Turn s t lines → remaining t < remaining s
 remaining_falls s t lines g live turn =
-    leaves (λ (x : State). remaining x < remaining s) (fewer_bytes (remaining s)) (choice s) (made (choice s) s turn.got).state t turn.to
+    leaves (λ (x : State). remaining x < remaining s) (λ free x memory same h. fewer_bytes (remaining s) x memory same.same_length h) (choice s) (made (choice s) s turn.got).state t turn.to
     (made_fewer (choice s) s turn.got g (choice_facts s) turn.may live)

@@ -1,4 +1,6 @@
 pub mod Kept
+pub mod ByteLists
+pub mod ScriptLaws
 pub mod ChoiceLaws
 pub mod ModuleLaws
 pub mod BlockLaws

@@ -1,12 +1,12 @@
 -- Kernel and runner stay good: each change of the two on its own.
-use Rattle.std.proofs.Common.{◌≡◌, ◌≢◌, ◌⊎◌, inl, inr, ℕ, ◌+◌, ◌<◌, ◌≤◌, ◌==◌, nat_lt, not, List, [], ◌∷◌, ◌++◌, length, drop, Bool, true, false, refl, sym, ap, ◌∙◌, subst, arith, Option, Some, None, Ok, Err, slice_get}
+use Rattle.std.proofs.Common.{◌≡◌, ◌≢◌, ◌⊎◌, inl, inr, ℕ, ◌+◌, ◌^◌, ◌<◌, ◌≤◌, ◌==◌, nat_lt, not, List, [], ◌∷◌, ◌++◌, length, drop, Bool, true, false, refl, sym, ap, ◌∙◌, subst, arith, Option, Some, None, Ok, Err, slice_get}
 use Rattle.std.specs.List.{AllByRecursion, Contains}
 use Rattle.std.specs.Option.{unwrap_or}
 use Rattle.std.proofs.lemmas.Bool.{eqb-false, or_parts, cond_both, ltb-true, not-true}
 use Rattle.std.proofs.lemmas.Option.{unwrap_or-slice_get}
 use Rattle.std.proofs.lemmas.List.{length-set, length-append, length-drop, get_or-set_same, get_or-set_other}
 use Rattle.avr_isa.specs.declared.instruction.Instr.{Instr}
-use Rattle.mote_base.specs.Messages.{Lists, queue_limit, list_of, in_order, front, without_front, appended, names}
+use Rattle.mote_base.specs.Messages.{Lists, queue_limit, list_of, in_order, front, without_front, appended, names, unnamed}
 use Rattle.mote_layout.specs.Memory.{domain_count, ram_bytes, message_frame_bytes, stack_top}
 use Rattle.mote_layout.proofs.BlockLists.{AreBlocks-without_owner}
 use Rattle.unit_code.specs.declared.unit.Unit.{Unit}
@@ -18,17 +18,19 @@ use Rattle.domain_model.specs.declared.fault.FaultNote.{FaultNote}
 use Rattle.domain_model.specs.declared.fault.UnitEnd.{UnitEnd}
 use Rattle.domain_model.specs.declared.fault.UnitEnd.TheVariants.{On, Over, Fault}
 use Rattle.domain_model.specs.declared.line.TraceLine.{TraceLine}
+use Rattle.domain_model.specs.Bytes.{AreBytes}
 use Rattle.domain_model.specs.Prepared.{Module, Prep}
 use Rattle.domain_model.specs.Units.{AreProper, Service, PostShort, Say, MyId, service_of}
-use Rattle.domain_model.specs.State.{Loaded, Processor, Message, KernelState, RunnerState, with_processor, with_pair, frame_of, dispatched}
+use Rattle.domain_model.specs.State.{Loaded, Processor, Message, radio, KernelState, RunnerState, with_processor, with_pair, frame_of, dispatched}
 use Rattle.domain_model.specs.Act.{Acted, act, act_running, act_at, act_store, act_return, act_call, answered, id_at, is_loaded, message_of, post_where, post_to, plain_effect, store_effect, store_address, may_store, bank, next_unit}
 use Rattle.domain_model.specs.Free.{SameKernel, with_memory, unit_free, UnitStep}
-use Rattle.domain_model.specs.Turn.{in_use, module_named, without_domain, unnamed, free_domain, Given, given, seated, init_to, final_to, Moved, loaded, load_given, load_in, load_new, load_prepared, load_image, unload_module, deliver, dispatch, begun, came, ended, close_module, close, settled, faulted, purged, handler_ended, at_clock, placed, emptied, entered}
-use Rattle.domain_model.specs.Good.{GoodProcessor, GoodModule, AreEntered, GoodMachine, GoodHandler, GoodRunning, GoodEnding, GoodQueues, IsKnown, AreDistinct, GoodImage, IsGoodImage}
+use Rattle.domain_model.specs.Turn.{in_use, module_named, without_domain, free_domain, Given, given, seated, init_to, final_to, Moved, loaded, load_given, load_in, load_new, load_prepared, load_image, unload_module, deliver, dispatch, begun, came, with_none_ending, close_module, close, settled, faulted, purged, handler_ended, at_clock, placed, emptied, entered}
+use Rattle.domain_model.specs.Good.{GoodProcessor, GoodModule, AreEntered, GoodMachine, GoodHandler, GoodRunning, GoodEnding, GoodQueues, IsFramed, IsKnown, AreDistinct, GoodImage, IsGoodImage}
 use Rattle.domain_model.proofs.Kept.{each_weaker, each_filter, each_push, each_at, each_drop, each_contained, each_either, filter_shorter}
 use Rattle.domain_model.proofs.ModuleLaws.{found, found_id, named, loaded_named, contained_loaded, contained_in_use, id_at_loaded, id_at_row, is_loaded_old, is_loaded_without, in_use_old, in_use_new, is_loaded_new, other_domain, all_apart, distinct_push, distinct_filter}
+use Rattle.domain_model.proofs.ByteLists.{HasBytes, bytes_kept, good_bytes, pair_bytes, plain_bytes, store_bytes, kernel_framed, dispatched_bytes, pair_word, id_byte}
 use Rattle.domain_model.proofs.BlockLaws.{GoodGiven, given_good, free_domain_is_free, owned_more, owned_without}
-use Rattle.domain_model.proofs.ActLaws.{with_both, AreAlike, plain_alike, store_alike, running_good, unit_behind}
+use Rattle.domain_model.proofs.ActLaws.{with_both, AreAlike, plain_alike, store_alike, running_good, unit_behind, unit_is_built}
 
 -- The banks.
 
@@ -45,11 +47,12 @@ module_kept : (r s : RunnerState) (m : Loaded) → bank s m.domain ≡ bank r m.
 module_kept r s m e h = record {
   face = h.face;
   domain = h.domain;
+  state = h.state;
   units = subst AreProper (sym e) h.units;
   entered = subst (λ (us : List Unit). AreEntered us m.face m.handler m.entries) (sym e) h.entered;
 }
 
-same_banks : (r s : RunnerState) → s.banks ≡ r.banks → (domain : ℕ) → bank s domain ≡ bank r domain
+pub same_banks : (r s : RunnerState) → s.banks ≡ r.banks → (domain : ℕ) → bank s domain ≡ bank r domain
 same_banks r s e domain = ap (λ (bs : List (List Unit)). unwrap_or (slice_get bs domain) []) e
 
 modules_kept : (r s : RunnerState) → s.banks ≡ r.banks → (ms : List Loaded) → AllByRecursion (GoodModule r) ms → AllByRecursion (GoodModule s) ms
@@ -57,8 +60,13 @@ modules_kept r s e ms h = each_weaker (GoodModule r) (GoodModule s) (λ m. modul
 
 -- A change of the processor, the clock or the next unit.
 
-alike_good : (p q : Processor) → AreAlike p q → GoodProcessor p → GoodProcessor q
-alike_good p q a h = record { registers = a.registers ∙ h.registers; memory = a.memory ∙ h.memory }
+alike_good : (p q : Processor) → AreAlike p q → HasBytes q → GoodProcessor p → GoodProcessor q
+alike_good p q a bytes h = record {
+  registers = a.registers ∙ h.registers;
+  memory = a.memory ∙ h.memory;
+  register_bytes = bytes.registers;
+  memory_bytes = bytes.memory;
+}
 
 kept_good : (k n : KernelState) (r s : RunnerState) → n.modules ≡ k.modules → n.blocks ≡ k.blocks → n.queues ≡ k.queues → s.banks ≡ r.banks → GoodProcessor n.processor → GoodHandler n s n.running → GoodMachine k r → GoodMachine n s
 kept_good k n r s modules blocks queues banks processor handler h = record {
@@ -100,27 +108,28 @@ pub clock_good : (k : KernelState) (r : RunnerState) (now : ℕ) → GoodMachine
 clock_good k r now h =
     kept_good k (at_clock k now) r r refl refl refl refl h.processor (handler_kept k.running k (at_clock k now) r refl refl refl refl h.handler) h
 
-pub memory_good : (k : KernelState) (r : RunnerState) (memory : List ℕ) → length memory ≡ length k.processor.memory → GoodMachine k r → GoodMachine (with_memory k memory) r
-memory_good k r memory same h =
-    kept_good k (with_memory k memory) r r refl refl refl refl (record { registers = h.processor.registers; memory = same ∙ h.processor.memory })
+pub memory_good : (k : KernelState) (r : RunnerState) (memory : List ℕ) → length memory ≡ length k.processor.memory → AreBytes memory → GoodMachine k r → GoodMachine (with_memory k memory) r
+memory_good k r memory same bytes h =
+    kept_good k (with_memory k memory) r r refl refl refl refl (record { registers = h.processor.registers; memory = same ∙ h.processor.memory; register_bytes = h.processor.register_bytes; memory_bytes = bytes })
     (handler_kept k.running k (with_memory k memory) r refl refl refl refl h.handler) h
 
 -- whatever the free bytes became
 pub same_kernel_good : (free : ℕ → Bool) (want got : KernelState) (r : RunnerState) → SameKernel free want got → GoodMachine want r → GoodMachine got r
 same_kernel_good free want got r same h =
-    subst (λ (k : KernelState). GoodMachine k r) (sym same.rest) (memory_good want r got.processor.memory same.memory.same_length h)
+    subst (λ (k : KernelState). GoodMachine k r) (sym same.rest) (memory_good want r got.processor.memory same.memory.same_length
+    (bytes_kept free want.processor.memory got.processor.memory same.memory h.processor.memory_bytes) h)
 
 -- no handler runs and no module ends
-pub ended_good : (k : KernelState) (r : RunnerState) → GoodMachine k r → GoodMachine (ended (handler_ended k)) r
-ended_good k r h = kept_good k (ended (handler_ended k)) r r refl refl refl refl h.processor (refl, refl) h
+pub ended_good : (k : KernelState) (r : RunnerState) → GoodMachine k r → GoodMachine (with_none_ending (handler_ended k)) r
+ended_good k r h = kept_good k (with_none_ending (handler_ended k)) r r refl refl refl refl h.processor (refl, refl) h
 
 -- Messages that wait.
 
 -- what is known stays so where more ids are loaded
 known_more : (modules more : List Loaded) → ((id : ℕ) → is_loaded modules id ≡ true → is_loaded more id ≡ true) → (m : Message) → IsKnown modules m → IsKnown more m
-known_more modules more f m h = record { receiver = f m.to h.receiver; sender = still h.sender }
+known_more modules more f m h = record { receiver = f m.to h.receiver; sender = still h.sender; framed = h.framed }
   where
-    still : ((m.from ≡ 0) ⊎ (m.from ≡ 255)) ⊎ (is_loaded modules m.from ≡ true) → ((m.from ≡ 0) ⊎ (m.from ≡ 255)) ⊎ (is_loaded more m.from ≡ true)
+    still : ((m.from ≡ 0) ⊎ (m.from ≡ radio)) ⊎ (is_loaded modules m.from ≡ true) → ((m.from ≡ 0) ⊎ (m.from ≡ radio)) ⊎ (is_loaded more m.from ≡ true)
     still (inl other) = inl other
     still (inr there) = inr (f m.from there)
 
@@ -138,9 +147,10 @@ known_without modules row d c m kept h =
     record {
       receiver = is_loaded_without modules row m.to d c (eqb-false m.to row.face.id parts.1) h.receiver;
       sender = still (eqb-false m.from row.face.id parts.0) h.sender;
+      framed = h.framed;
     }
   where
-    still : m.from ≢ row.face.id → ((m.from ≡ 0) ⊎ (m.from ≡ 255)) ⊎ (is_loaded modules m.from ≡ true) → ((m.from ≡ 0) ⊎ (m.from ≡ 255)) ⊎ (is_loaded (without_domain row.domain modules) m.from ≡ true)
+    still : m.from ≢ row.face.id → ((m.from ≡ 0) ⊎ (m.from ≡ radio)) ⊎ (is_loaded modules m.from ≡ true) → ((m.from ≡ 0) ⊎ (m.from ≡ radio)) ⊎ (is_loaded (without_domain row.domain modules) m.from ≡ true)
     still ne (inl other) = inl other
     still ne (inr there) = inr (is_loaded_without modules row m.from d c ne there)
 
@@ -222,7 +232,7 @@ lists_within k r h = h.queues.within
 
 -- A module goes out.
 
-pub purged_good : (k : KernelState) (r : RunnerState) (row : Loaded) → GoodMachine k r → Contains k.modules row → GoodMachine (ended (purged (handler_ended k) row.face.id row.domain)) (emptied r row.domain)
+pub purged_good : (k : KernelState) (r : RunnerState) (row : Loaded) → GoodMachine k r → Contains k.modules row → GoodMachine (with_none_ending (purged (handler_ended k) row.face.id row.domain)) (emptied r row.domain)
 purged_good k r row h c = record {
   processor = h.processor;
   banks = length-set r.banks row.domain [] ∙ h.banks;
@@ -237,22 +247,22 @@ purged_good k r row h c = record {
 }
 
 -- the module of the running domain
-running_purged : (k : KernelState) (r : RunnerState) (domain : ℕ) → GoodMachine k r → in_use k.modules domain ≡ true → GoodMachine (ended (purged (handler_ended k) (id_at k.modules domain) domain)) (emptied r domain)
+running_purged : (k : KernelState) (r : RunnerState) (domain : ℕ) → GoodMachine k r → in_use k.modules domain ≡ true → GoodMachine (with_none_ending (purged (handler_ended k) (id_at k.modules domain) domain)) (emptied r domain)
 running_purged k r domain h used =
     let f = found k.modules domain used in
-    subst (λ (id : ℕ). GoodMachine (ended (purged (handler_ended k) id domain)) (emptied r domain)) (sym (found_id k.modules domain f))
-    (subst (λ (d : ℕ). GoodMachine (ended (purged (handler_ended k) f.row.face.id d)) (emptied r d)) f.domain_of (purged_good k r f.row h f.contained))
+    subst (λ (id : ℕ). GoodMachine (with_none_ending (purged (handler_ended k) id domain)) (emptied r domain)) (sym (found_id k.modules domain f))
+    (subst (λ (d : ℕ). GoodMachine (with_none_ending (purged (handler_ended k) f.row.face.id d)) (emptied r d)) f.domain_of (purged_good k r f.row h f.contained))
 
 -- A handler's end, by the module that ends.
 
 abbrev GoodMoved : Moved → Type 0
 GoodMoved m = GoodMachine m.kernel m.runner
 
-module_closed : (o : Option Loaded) (k : KernelState) (r : RunnerState) (lines : List TraceLine) → ((row : Loaded) → o ≡ Some row → Contains k.modules row) → GoodMachine (ended (handler_ended k)) r → GoodMoved (close_module o (handler_ended k) r lines)
+module_closed : (o : Option Loaded) (k : KernelState) (r : RunnerState) (lines : List TraceLine) → ((row : Loaded) → o ≡ Some row → Contains k.modules row) → GoodMachine (with_none_ending (handler_ended k)) r → GoodMoved (close_module o (handler_ended k) r lines)
 module_closed None k r lines c h = h
-module_closed (Some row) k r lines c h = purged_good (ended (handler_ended k)) r row h (c row refl)
+module_closed (Some row) k r lines c h = purged_good (with_none_ending (handler_ended k)) r row h (c row refl)
 
-closed_good : (o : Option ℕ) (k : KernelState) (r : RunnerState) (lines : List TraceLine) → k.ending ≡ o → GoodMachine (ended (handler_ended k)) r → GoodMoved (close o (handler_ended k) r lines)
+closed_good : (o : Option ℕ) (k : KernelState) (r : RunnerState) (lines : List TraceLine) → k.ending ≡ o → GoodMachine (with_none_ending (handler_ended k)) r → GoodMoved (close o (handler_ended k) r lines)
 closed_good None k r lines e h = subst (λ (o : Option ℕ). GoodMachine (record (handler_ended k) { ending = o }) r) (sym e) h
 closed_good (Some id) k r lines e h =
     module_closed (module_named k.modules id) k r lines (λ row at. (named k.modules id row at).contained) h
@@ -269,32 +279,36 @@ others_kept r domain units unit (m ∷ ms) unused h =
     )
 
 -- the new module's bank holds its units
-new_module : (r : RunnerState) (m : Module) (domain : ℕ) (g : Given) → length r.banks ≡ domain_count → GoodImage m → domain < domain_count → GoodModule (entered (placed r domain m.units) m.handler) (seated m domain g)
-new_module r m domain g banks image below =
+new_module : (r : RunnerState) (m : Module) (domain : ℕ) (g : Given) → length r.banks ≡ domain_count → GoodImage m → domain < domain_count → g.address < 2 ^ 16 → GoodModule (entered (placed r domain m.units) m.handler) (seated m domain g)
+new_module r m domain g banks image below address =
     let same = bank_same r domain m.units (omega (arith, banks, below)) in
     record {
       face = image.face;
       domain = below;
+      state = address;
       units = subst AreProper (sym same) image.units;
       entered = subst (λ (us : List Unit). AreEntered us m.face m.handler m.entries) (sym same) image.entered;
     }
 
 -- a processor as a handler finds it
-dispatched_good : (p : Processor) (state : ℕ) (m : Message) → length p.memory ≡ ram_bytes → GoodProcessor (dispatched p state m)
-dispatched_good p state m memory = record {
+dispatched_good : (p : Processor) (state : ℕ) (m : Message) → length p.memory ≡ ram_bytes → AreBytes p.memory → state < 2 ^ 16 → IsFramed m → GoodProcessor (dispatched p state m)
+dispatched_good p state m memory bytes small framed = record {
   registers = simp length-set refl;
-  memory = length-append (frame_of m) (drop message_frame_bytes p.memory) ∙ omega (arith, memory, length-drop 16 p.memory);
+  memory = length-append (frame_of m) (drop message_frame_bytes p.memory) ∙ omega (arith, memory, length-drop message_frame_bytes p.memory);
+  register_bytes = (dispatched_bytes p state m small framed bytes).registers;
+  memory_bytes = (dispatched_bytes p state m small framed bytes).memory;
 }
 
 pub loaded_good : (k : KernelState) (r : RunnerState) (m : Module) (domain : ℕ) (g : Given) → k.ending ≡ None → GoodMachine k r → GoodImage m → domain < domain_count → in_use k.modules domain ≡ false → is_loaded k.modules m.face.id ≡ false → GoodGiven k domain g → GoodMachine (loaded m domain g k r).kernel (loaded m domain g k r).runner
 loaded_good k r m domain g quiet h image below unused unloaded block =
     let same = bank_same r domain m.units (omega (arith, h.banks, below)) in
     record {
-      processor = dispatched_good (record k.processor { memory = g.memory }) g.address (init_to m.face.id) (block.memory ∙ h.processor.memory);
+      processor = dispatched_good (record k.processor { memory = g.memory }) g.address (init_to m.face.id) (block.memory ∙ h.processor.memory)
+          (block.bytes h.processor.memory_bytes) block.address (kernel_framed m.face.id 0 image.face.id.1 (omega arith));
       banks = length-set r.banks domain m.units ∙ h.banks;
       modules =
           each_push (GoodModule (entered (placed r domain m.units) m.handler)) k.modules (seated m domain g)
-          (others_kept r domain m.units m.handler k.modules unused h.modules) (new_module r m domain g h.banks image below);
+          (others_kept r domain m.units m.handler k.modules unused h.modules) (new_module r m domain g h.banks image below block.address);
       distinct = distinct_push k.modules (seated m domain g) h.distinct (all_apart k.modules (seated m domain g) unloaded unused);
       blocks = block.blocks;
       owners =
@@ -312,7 +326,11 @@ loaded_good k r m domain g quiet h image below unused unloaded block =
           bound = omega arith;
           top = (refl, refl);
         },
-        record { receiver = is_loaded_new k.modules (seated m domain g); sender = inl (inl refl) },
+        record {
+          receiver = is_loaded_new k.modules (seated m domain g);
+          sender = inl (inl refl);
+          framed = kernel_framed m.face.id 0 image.face.id.1 (omega arith);
+        },
         rw quiet tt,
       );
     }
@@ -321,7 +339,9 @@ loaded_good k r m domain g quiet h image below unused unloaded block =
 
 started : (k : KernelState) (r : RunnerState) (row : Loaded) (m : Message) (queues : Lists Message) (o : Option ℕ) → GoodMachine k r → Contains k.modules row → GoodQueues k.modules queues → IsKnown k.modules m → GoodEnding k (record { domain = row.domain; base = stack_top; bound = stack_top }) o → GoodMachine (record (begun (record k { queues = queues }) row.domain row.state m) { ending = o }) (entered r row.handler)
 started k r row m queues o h c waiting known ending = record {
-  processor = dispatched_good k.processor row.state m h.processor.memory;
+  processor =
+      dispatched_good k.processor row.state m h.processor.memory h.processor.memory_bytes
+      (each_contained (GoodModule r) k.modules row h.modules c).state known.framed;
   banks = h.banks;
   modules = modules_kept r (entered r row.handler) refl k.modules h.modules;
   distinct = h.distinct;
@@ -376,7 +396,11 @@ module _ (k : KernelState) (r : RunnerState) (quiet : k.ending ≡ None) (h : Go
   unload_moved (Some row) id e =
       let n = named k.modules id row e in
       started k r row (final_to id) k.queues (Some id) h n.contained h.queues
-      (record { receiver = subst (λ (i : ℕ). is_loaded k.modules i ≡ true) n.id_of (contained_loaded k.modules row n.contained); sender = inl (inl refl) })
+      (record {
+        receiver = subst (λ (i : ℕ). is_loaded k.modules i ≡ true) n.id_of (contained_loaded k.modules row n.contained);
+        sender = inl (inl refl);
+        framed = kernel_framed id 1 (omega (arith, n.id_of, (each_contained (GoodModule r) k.modules row h.modules n.contained).face.id.1)) (omega arith);
+      })
       (sym n.id_of ∙ sym (id_at_row k.modules row h.distinct n.contained))
 
   -- a dispatch starts the receiver's handler
@@ -407,12 +431,12 @@ dispatch_good k r h out = dispatch_moved k r (none_ends k r h out) h (front k.qu
 
 -- A unit.
 
-goes_on_good : (k n : KernelState) (r : RunnerState) (run : Running) → GoodMachine k r → k.running ≡ Some run → AreAlike k.processor n.processor → n ≡ with_both k n.processor n.queues → GoodQueues k.modules n.queues → r.unit + 1 < length (bank r run.domain) → GoodMachine n (entered r (r.unit + 1))
-goes_on_good k n r run h i alike alone queues behind =
+goes_on_good : (k n : KernelState) (r : RunnerState) (run : Running) → GoodMachine k r → k.running ≡ Some run → AreAlike k.processor n.processor → HasBytes n.processor → n ≡ with_both k n.processor n.queues → GoodQueues k.modules n.queues → r.unit + 1 < length (bank r run.domain) → GoodMachine n (entered r (r.unit + 1))
+goes_on_good k n r run h i alike bytes alone queues behind =
     let good = running_good k r run h i in
     let unit = running_kept k (with_both k n.processor n.queues) r (entered r (r.unit + 1)) run alike.sp refl behind good.0 in
     subst (λ (x : KernelState). GoodMachine x (entered r (r.unit + 1))) (sym alone) (record {
-      processor = alike_good k.processor n.processor alike h.processor;
+      processor = alike_good k.processor n.processor alike bytes h.processor;
       banks = h.banks;
       modules = modules_kept r (entered r (r.unit + 1)) refl k.modules h.modules;
       distinct = h.distinct;
@@ -431,7 +455,8 @@ abbrev GoodActed : Acted → Type 0
 GoodActed got = GoodMachine got.kernel got.runner
 
 store_acted : (b : Bool) (i : Instr) (run : Running) (k : KernelState) (r : RunnerState) → GoodMachine k r → k.running ≡ Some run → r.unit + 1 < length (bank r run.domain) → GoodActed (act_store b i k r)
-store_acted true i run k r h e behind = goes_on_good k (with_processor k (store_effect i k.processor)) r run h e (store_alike i k.processor) refl h.queues behind
+store_acted true i run k r h e behind = goes_on_good k (with_processor k (store_effect i k.processor)) r run h e (store_alike i k.processor)
+    (store_bytes i k.processor (good_bytes k.processor h.processor)) refl h.queues behind
 store_acted false i run k r h e behind = h
 
 return_acted : (b : Bool) (k : KernelState) (r : RunnerState) → GoodMachine k r → GoodActed (act_return b k r)
@@ -446,31 +471,43 @@ same_alike p = record { sp = refl; registers = refl; memory = refl }
 
 -- A kernel call.
 module _ (k : KernelState) (r : RunnerState) (run : Running) (h : GoodMachine k r) (e : k.running ≡ Some run) (behind : r.unit + 1 < length (bank r run.domain)) where
-  answer_acted : (queues : Lists Message) (answer : ℕ) → GoodQueues k.modules queues → GoodMachine (answered (record k { queues = queues }) answer) (entered r (r.unit + 1))
-  answer_acted queues answer good =
-      goes_on_good k (answered (record k { queues = queues }) answer) r run h e (with_pair_alike k.processor 24 answer) refl good behind
+  answer_acted : (queues : Lists Message) (answer : ℕ) → answer < 2 ^ 16 → GoodQueues k.modules queues → GoodMachine (answered (record k { queues = queues }) answer) (entered r (r.unit + 1))
+  answer_acted queues answer small good =
+      goes_on_good k (answered (record k { queues = queues }) answer) r run h e (with_pair_alike k.processor 24 answer)
+      (pair_bytes k.processor 24 answer small (good_bytes k.processor h.processor)) refl good behind
 
   where_acted : (b : Bool) (m : Message) → IsKnown k.modules m → nat_lt (length (list_of m.high k.queues)) queue_limit ≡ b → GoodMachine (post_where b m k) (entered r (r.unit + 1))
-  where_acted true m known room = answer_acted (appended m.high m k.queues) 0 (queues_posted k.modules m.high m k.queues known room h.queues)
-  where_acted false m known room = answer_acted k.queues 1 h.queues
+  where_acted true m known room = answer_acted (appended m.high m k.queues) 0 (omega arith) (queues_posted k.modules m.high m k.queues known room h.queues)
+  where_acted false m known room = answer_acted k.queues 1 (omega arith) h.queues
 
-  -- a post's message is known: its receiver is loaded, and so is its sender, which runs
+  -- a post's message takes its numbers from the registers
+  post_framed : IsFramed (message_of k run)
+  post_framed = record {
+    to = h.processor.register_bytes 24;
+    from = id_byte r k.modules run.domain h.modules;
+    sort = h.processor.register_bytes 22;
+    byte = h.processor.register_bytes 20;
+    word = pair_word k.processor 18 h.processor.register_bytes;
+  }
+
+  -- and it is known: its receiver is loaded, and so is its sender, which runs
   to_acted : (b : Bool) → is_loaded k.modules (message_of k run).to ≡ b → GoodMachine (post_to b (message_of k run) k) (entered r (r.unit + 1))
   to_acted true there =
       where_acted (nat_lt (length (list_of (message_of k run).high k.queues)) queue_limit) (message_of k run)
-      (record { receiver = there; sender = inr (id_at_loaded k.modules run.domain (running_good k r run h e).0.loaded) }) refl
-  to_acted false there = answer_acted k.queues 2 h.queues
+      (record { receiver = there; sender = inr (id_at_loaded k.modules run.domain (running_good k r run h e).0.loaded); framed = post_framed }) refl
+  to_acted false there = answer_acted k.queues 2 (omega arith) h.queues
 
   call_acted : (o : Option Service) → GoodActed (act_call o run k r)
   call_acted (Some PostShort) = to_acted (is_loaded k.modules (message_of k run).to) refl
-  call_acted (Some Say) = answer_acted k.queues 0 h.queues
-  call_acted (Some MyId) = answer_acted k.queues (id_at k.modules run.domain) h.queues
-  call_acted None = goes_on_good k k r run h e (same_alike k.processor) refl h.queues behind
+  call_acted (Some Say) = answer_acted k.queues 0 (omega arith) h.queues
+  call_acted (Some MyId) = answer_acted k.queues (id_at k.modules run.domain) (omega (arith, id_byte r k.modules run.domain h.modules)) h.queues
+  call_acted None = goes_on_good k k r run h e (same_alike k.processor) (good_bytes k.processor h.processor) refl h.queues behind
 
 at_acted : (o : Option Unit) (run : Running) (k : KernelState) (r : RunnerState) → GoodMachine k r → k.running ≡ Some run → next_unit r run ≡ o → GoodActed (act_at o run k r)
 at_acted None run k r h e next = h
 at_acted (Some (Plain i)) run k r h e next =
-    goes_on_good k (with_processor k (plain_effect i k.processor)) r run h e (plain_alike i k.processor) refl h.queues (unit_behind k r run (Plain i) h e next refl)
+    goes_on_good k (with_processor k (plain_effect i k.processor)) r run h e (plain_alike i k.processor)
+    (plain_bytes i k.processor (unit_is_built k r run (Plain i) h e next) (good_bytes k.processor h.processor)) refl h.queues (unit_behind k r run (Plain i) h e next refl)
 at_acted (Some (Store i)) run k r h e next =
     store_acted (may_store k run (store_address k.processor)) i run k r h e (unit_behind k r run (Store i) h e next refl)
 at_acted (Some (KernelCall n)) run k r h e next = call_acted k r run h e (unit_behind k r run (KernelCall n) h e next refl) (service_of n)

@@ -28,9 +28,9 @@ ends_within (suc n) s g h =
     elim (stands s.ended) [
       | inr ended ↦ ([], over ended)
       | inl live ↦
-          let fewer = remaining_falls s (next s).state (next s).lines g live (turn_made s) in
-          let rest = ends_within n (next s).state (turn_good s (next s).state (next s).lines g (turn_made s)) (omega (arith, fewer, h)) in
-          ((next s).lines ++ rest.0, more (next s).state (next s).lines rest.0 live (turn_made s) rest.1)
+          let fewer = remaining_falls s (next s).state (next s).lines g live (turn_made s g) in
+          let rest = ends_within n (next s).state (turn_good s (next s).state (next s).lines g (turn_made s g)) (omega (arith, fewer, h)) in
+          ((next s).lines ++ rest.0, more (next s).state (next s).lines rest.0 live (turn_made s g) rest.1)
     ]
 
 pub runs_end : RunsEnd

@@ -2,18 +2,20 @@
 use Rattle.std.proofs.Common.{ℕ, ◌≤◌, List, map, refl, arith, Option}
 use Rattle.std.specs.List.{AllByRecursion}
 use Rattle.mote_layout.specs.Limits.{unit_limit, handler_limit}
+use Rattle.mote_layout.specs.Memory.{register_count, ram_bytes}
 use Rattle.domain_model.specs.declared.event.Event.{Event}
 use Rattle.domain_model.specs.Prepared.{Prep, prepared}
 use Rattle.domain_model.specs.State.{State, Input, begins, start, no_bytes}
 use Rattle.domain_model.specs.Turn.{IsStart, is_unstated}
 use Rattle.domain_model.specs.Good.{Good, IsGoodImage, AreTimes}
+use Rattle.domain_model.proofs.ByteLists.{bytes_zeros}
 use Rattle.domain_model.proofs.TurnLaws.{same_state_good}
 
 pub begins_good : (images : List (Option Prep)) (events : List Event) (units handler : ℕ) → AllByRecursion IsGoodImage images → AreTimes events → units ≤ unit_limit → 1 ≤ handler → handler ≤ handler_limit → Good (begins images events units handler)
 unfolding no_bytes
 begins_good images events units handler good times most least highest = record {
   machine = record {
-    processor = record { registers = refl; memory = refl };
+    processor = record { registers = refl; memory = refl; register_bytes = bytes_zeros register_count; memory_bytes = bytes_zeros ram_bytes };
     banks = refl;
     modules = tt;
     distinct = tt;

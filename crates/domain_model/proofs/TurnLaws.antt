@@ -1,7 +1,6 @@
 -- Every turn keeps a state good, and from each good state that is live there is a turn.
-use Rattle.std.proofs.Common.{Ok, Err, ◌≡◌, ℕ, ◌^◌, ◌<◌, List, [], length, Bool, true, false, refl, sym, ap, ◌∙◌, subst, arith, Option, Some, None, slice_get}
+use Rattle.std.proofs.Common.{Ok, Err, ◌≡◌, ℕ, ◌^◌, ◌<◌, List, [], Bool, true, false, refl, sym, ap, ◌∙◌, subst, arith, Option, Some, None, slice_get}
 use Rattle.mote_base.specs.Messages.{front}
-use Rattle.domain_model.specs.declared.event.Event.{Event}
 use Rattle.domain_model.specs.declared.event.What.{What}
 use Rattle.domain_model.specs.declared.event.What.TheVariants as what
 use Rattle.domain_model.specs.declared.event.Choice.{Choice}
@@ -10,18 +9,20 @@ use Rattle.domain_model.specs.declared.fault.UnitEnd.{UnitEnd}
 use Rattle.domain_model.specs.declared.fault.UnitEnd.TheVariants.{Fault}
 use Rattle.domain_model.specs.declared.handler.Running.{Running}
 use Rattle.domain_model.specs.declared.line.TraceLine.{TraceLine}
+use Rattle.domain_model.specs.Bytes.{AreBytes}
 use Rattle.domain_model.specs.Prepared.{Module, Prep}
 use Rattle.domain_model.specs.State.{Loaded, Message, KernelState, RunnerState, State}
 use Rattle.domain_model.specs.Act.{Acted, act, is_loaded}
 use Rattle.domain_model.specs.Free.{SameBut, SameKernel, SameState, UnitStep, with_memory, is_kernel_byte, unit_free}
 use Rattle.domain_model.specs.Turn.{Given, given, free_domain, module_named, came, unload_module, deliver, dispatch, watchdog, load_image, load_prepared, load_new, load_in, load_given, settled, choice, made, May, Leaves, Turn}
-use Rattle.domain_model.specs.Good.{Good}
+use Rattle.domain_model.specs.Good.{GoodMachine, Good}
 use Rattle.domain_model.specs.Facts.{Facts}
-use Rattle.domain_model.proofs.Kept.{each_drop, each_at}
+use Rattle.domain_model.proofs.ScriptLaws.{times_drop, times_first}
 use Rattle.domain_model.proofs.ChoiceLaws.{choice_facts}
 use Rattle.domain_model.proofs.ActLaws.{with_both, act_changes_alone}
+use Rattle.domain_model.proofs.ByteLists.{bytes_kept}
 use Rattle.domain_model.proofs.CloseLaws.{settled_rests}
-use Rattle.domain_model.proofs.MachineLaws.{clock_good, memory_good, faulted_good, came_good, dispatch_good, step_good, settled_good}
+use Rattle.domain_model.proofs.MachineLaws.{clock_good, memory_good, faulted_good, came_good, dispatch_good, act_good, step_good, settled_good}
 
 -- The clock.
 
@@ -83,7 +84,7 @@ made_good Stays s got g facts may = g
 made_good (Comes e) s got g facts may = record {
   machine = came_good s.images e.what s.kernel s.runner g.machine facts.outside g.images;
   images = g.images;
-  times = each_drop (λ (x : Event). x.time < 2 ^ 32) s.events g.times;
+  times = times_drop s.events g.times;
   clock = rw (came_clock s.images e.what s.kernel s.runner) g.clock;
   total = g.total;
   units = g.units;
@@ -101,7 +102,7 @@ made_good Dispatches s got g facts may = record {
   handler = g.handler;
 }
 made_good (Jumps now) s got g facts may =
-    let time : facts.event.time < 2 ^ 32 = each_at (λ (x : Event). x.time < 2 ^ 32) s.events 0 facts.event g.times facts.first in
+    let time : facts.event.time < 2 ^ 32 = times_first s.events facts.event g.times facts.first in
     record {
       machine = clock_good s.kernel s.runner now g.machine;
       images = g.images;
@@ -169,9 +170,11 @@ with_bytes s memory = record s { kernel = with_memory s.kernel memory }
 pub same_state : (free : ℕ → Bool) (want t : State) → SameState free want t → t ≡ with_bytes want t.kernel.processor.memory
 same_state free want t same = same.rest ∙ ap (λ (k : KernelState). record want { kernel = k }) same.kernel.rest
 
-pub bytes_good : (s : State) (memory : List ℕ) → length memory ≡ length s.kernel.processor.memory → Good s → Good (with_bytes s memory)
-bytes_good s memory same g = record {
-  machine = memory_good s.kernel s.runner memory same g.machine;
+pub bytes_good : (free : ℕ → Bool) (s : State) (memory : List ℕ) → SameBut free s.kernel.processor.memory memory → Good s → Good (with_bytes s memory)
+bytes_good free s memory same g = record {
+  machine =
+      memory_good s.kernel s.runner memory same.same_length
+      (bytes_kept free s.kernel.processor.memory memory same g.machine.processor.memory_bytes) g.machine;
   images = g.images;
   times = g.times;
   clock = g.clock;
@@ -183,17 +186,17 @@ bytes_good s memory same g = record {
 
 pub same_state_good : (free : ℕ → Bool) (want t : State) → SameState free want t → Good want → Good t
 same_state_good free want t same g =
-    subst Good (sym (same_state free want t same)) (bytes_good want t.kernel.processor.memory same.kernel.memory.same_length g)
+    subst Good (sym (same_state free want t same)) (bytes_good free want t.kernel.processor.memory same.kernel.memory g)
 
 -- What holds of a state and of each that differs in its bytes holds after each turn.
-pub leaves : (P : State → Type 0) → ((s : State) (memory : List ℕ) → length memory ≡ length s.kernel.processor.memory → P s → P (with_bytes s memory)) → (c : Choice) (want t : State) → Leaves c want t → P want → P t
+pub leaves : (P : State → Type 0) → ((free : ℕ → Bool) (s : State) (memory : List ℕ) → SameBut free s.kernel.processor.memory memory → P s → P (with_bytes s memory)) → (c : Choice) (want t : State) → Leaves c want t → P want → P t
 leaves P f Stays want t to p = subst P (sym to) p
-leaves P f (Comes e) want t to p = subst P (sym (same_state is_kernel_byte want t to)) (f want t.kernel.processor.memory to.kernel.memory.same_length p)
-leaves P f Dispatches want t to p = subst P (sym (same_state is_kernel_byte want t to)) (f want t.kernel.processor.memory to.kernel.memory.same_length p)
-leaves P f (Jumps now) want t to p = subst P (sym (same_state is_kernel_byte want t to)) (f want t.kernel.processor.memory to.kernel.memory.same_length p)
-leaves P f Idles want t to p = subst P (sym (same_state is_kernel_byte want t to)) (f want t.kernel.processor.memory to.kernel.memory.same_length p)
-leaves P f Budgets want t to p = subst P (sym (same_state is_kernel_byte want t to)) (f want t.kernel.processor.memory to.kernel.memory.same_length p)
-leaves P f (Watches run) want t to p = subst P (sym (same_state is_kernel_byte want t to)) (f want t.kernel.processor.memory to.kernel.memory.same_length p)
+leaves P f (Comes e) want t to p = subst P (sym (same_state is_kernel_byte want t to)) (f is_kernel_byte want t.kernel.processor.memory to.kernel.memory p)
+leaves P f Dispatches want t to p = subst P (sym (same_state is_kernel_byte want t to)) (f is_kernel_byte want t.kernel.processor.memory to.kernel.memory p)
+leaves P f (Jumps now) want t to p = subst P (sym (same_state is_kernel_byte want t to)) (f is_kernel_byte want t.kernel.processor.memory to.kernel.memory p)
+leaves P f Idles want t to p = subst P (sym (same_state is_kernel_byte want t to)) (f is_kernel_byte want t.kernel.processor.memory to.kernel.memory p)
+leaves P f Budgets want t to p = subst P (sym (same_state is_kernel_byte want t to)) (f is_kernel_byte want t.kernel.processor.memory to.kernel.memory p)
+leaves P f (Watches run) want t to p = subst P (sym (same_state is_kernel_byte want t to)) (f is_kernel_byte want t.kernel.processor.memory to.kernel.memory p)
 leaves P f (Acts run) want t to p = subst P (sym to) p
 
 pub turn_good : (s t : State) (lines : List TraceLine) → Good s → Turn s t lines → Good t
@@ -202,51 +205,56 @@ turn_good s t lines g turn =
 
 -- The turn that leaves no free byte changed.
 
-same_bytes : (free : ℕ → Bool) (memory : List ℕ) → SameBut free memory memory
-same_bytes free memory = record { same_length = refl; same = λ i h. refl }
+same_bytes : (free : ℕ → Bool) (memory : List ℕ) → AreBytes memory → SameBut free memory memory
+same_bytes free memory bytes = record { same_length = refl; same = λ i h. refl; bytes = λ i h. bytes i }
 
-same_kernel : (free : ℕ → Bool) (k : KernelState) → SameKernel free k k
-same_kernel free k = record { rest = refl; memory = same_bytes free k.processor.memory }
+same_kernel : (free : ℕ → Bool) (k : KernelState) → AreBytes k.processor.memory → SameKernel free k k
+same_kernel free k bytes = record { rest = refl; memory = same_bytes free k.processor.memory bytes }
 
-pub step_itself : (k : KernelState) (r : RunnerState) → UnitStep k r (act k r)
-step_itself k r = record { kernel = same_kernel (unit_free k r) (act k r).kernel; runner = refl; lines = refl; ending = refl }
-
--- each choice may have that unit, and leaves what is made of the state
-pub may_itself : (c : Choice) (s : State) → May c s (act s.kernel s.runner)
-may_itself Stays s = tt
-may_itself (Comes e) s = tt
-may_itself Dispatches s = tt
-may_itself (Jumps now) s = tt
-may_itself Idles s = tt
-may_itself Budgets s = tt
-may_itself (Watches run) s = tt
-may_itself (Acts run) s = step_itself s.kernel s.runner
-
-same_state_itself : (s : State) → SameState is_kernel_byte s s
-same_state_itself s = record { kernel = same_kernel is_kernel_byte s.kernel; rest = refl }
-
-pub leaves_itself : (c : Choice) (s : State) → Leaves c s s
-leaves_itself Stays s = refl
-leaves_itself (Comes e) s = same_state_itself s
-leaves_itself Dispatches s = same_state_itself s
-leaves_itself (Jumps now) s = same_state_itself s
-leaves_itself Idles s = same_state_itself s
-leaves_itself Budgets s = same_state_itself s
-leaves_itself (Watches run) s = same_state_itself s
-leaves_itself (Acts run) s = refl
-
--- what is made of the state, with the unit as it is defined, is a turn
-pub turn_made : (s : State) → Turn s (made (choice s) s (act s.kernel s.runner)).state (made (choice s) s (act s.kernel s.runner)).lines
-turn_made s = record {
-  got = act s.kernel s.runner;
-  may = may_itself (choice s) s;
-  to = leaves_itself (choice s) (made (choice s) s (act s.kernel s.runner)).state;
-  tells = refl;
+pub step_itself : (k : KernelState) (r : RunnerState) → GoodMachine k r → UnitStep k r (act k r)
+step_itself k r h = record {
+  kernel = same_kernel (unit_free k r) (act k r).kernel (act_good k r h).processor.memory_bytes;
+  runner = refl;
+  lines = refl;
+  ending = refl;
 }
 
--- and good
+-- each choice may have that unit, and leaves what is made of the state
+pub may_itself : (c : Choice) (s : State) → Good s → May c s (act s.kernel s.runner)
+may_itself Stays s g = tt
+may_itself (Comes e) s g = tt
+may_itself Dispatches s g = tt
+may_itself (Jumps now) s g = tt
+may_itself Idles s g = tt
+may_itself Budgets s g = tt
+may_itself (Watches run) s g = tt
+may_itself (Acts run) s g = step_itself s.kernel s.runner g.machine
+
+same_state_itself : (s : State) → Good s → SameState is_kernel_byte s s
+same_state_itself s g = record { kernel = same_kernel is_kernel_byte s.kernel g.machine.processor.memory_bytes; rest = refl }
+
+pub leaves_itself : (c : Choice) (s : State) → Good s → Leaves c s s
+leaves_itself Stays s g = refl
+leaves_itself (Comes e) s g = same_state_itself s g
+leaves_itself Dispatches s g = same_state_itself s g
+leaves_itself (Jumps now) s g = same_state_itself s g
+leaves_itself Idles s g = same_state_itself s g
+leaves_itself Budgets s g = same_state_itself s g
+leaves_itself (Watches run) s g = same_state_itself s g
+leaves_itself (Acts run) s g = refl
+
+-- what is made of a good state, with the unit as it is defined, is good
 pub good_made : (c : Choice) (s : State) → Good s → Facts c s → Good (made c s (act s.kernel s.runner)).state
-good_made c s g facts = made_good c s (act s.kernel s.runner) g facts (may_itself c s)
+good_made c s g facts = made_good c s (act s.kernel s.runner) g facts (may_itself c s g)
+
+-- and a turn
+pub turn_made : (s : State) → Good s → Turn s (made (choice s) s (act s.kernel s.runner)).state (made (choice s) s (act s.kernel s.runner)).lines
+turn_made s g = record {
+  got = act s.kernel s.runner;
+  may = may_itself (choice s) s g;
+  to = leaves_itself (choice s) (made (choice s) s (act s.kernel s.runner)).state (good_made (choice s) s g (choice_facts s));
+  tells = refl;
+}
 
 -- the same by a choice that is known to be the next, for a unit of any runner and a state that may follow
 pub turn_by : (c : Choice) (s t : State) (got : Acted) (lines : List TraceLine) → choice s ≡ c → May c s got → Leaves c (made c s got).state t → lines ≡ (made c s got).lines → Turn s t lines

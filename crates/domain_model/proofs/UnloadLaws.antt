@@ -6,7 +6,7 @@ use Rattle.std.specs.Option.{option_and_then, option_map}
 use Rattle.std.proofs.lemmas.Bool.{cases_Bool, cond-true, cond-false, true≢false, eqb-false, or_parts, not-true}
 use Rattle.std.proofs.lemmas.Option.{none-some, same_Some, some_pair_parts}
 use Rattle.std.proofs.lemmas.List.Elements.{Contains-append_cases}
-use Rattle.mote_base.specs.Messages.{Lists, in_order, front, names}
+use Rattle.mote_base.specs.Messages.{Lists, in_order, front, names, without_named}
 use Rattle.module_image.specs.declared.face.Subscribed.{Subscribed}
 use Rattle.module_image.specs.Links.{Seat, bound_slot, place_of, provider_of, seat_in, seat_of}
 use Rattle.mote_layout.specs.Memory.{kernel}
@@ -25,7 +25,7 @@ use Rattle.domain_model.specs.Prepared.{Module, Prep}
 use Rattle.domain_model.specs.State.{Loaded, Message, KernelState, RunnerState, State, seats}
 use Rattle.domain_model.specs.Act.{Acted, id_at, is_loaded}
 use Rattle.domain_model.specs.Free.{UnitStep, with_memory}
-use Rattle.domain_model.specs.Turn.{in_use, module_named, without_domain, without_named, Moved, unload_module, deliver, dispatch, Given, given, free_domain, came, load_image, load_prepared, refused_file, load_new, load_in, load_given, settled, faulted, watchdog, choice, made, May, Turn}
+use Rattle.domain_model.specs.Turn.{in_use, module_named, without_domain, Moved, unload_module, deliver, dispatch, Given, given, free_domain, emptied, came, load_image, load_prepared, refused_file, load_new, load_in, load_given, settled, faulted, watchdog, choice, made, May, Turn}
 use Rattle.domain_model.specs.Good.{GoodMachine, GoodModule, Good}
 use Rattle.domain_model.specs.Laws.{Names, a_module, a_slot, a_message, the_message, a_block, a_lost_payload, the_running, UnloadsCleanly}
 use Rattle.domain_model.specs.Facts.{Facts}
@@ -235,43 +235,45 @@ done_quiet run k lines quiet time id c =
     ]
 
 -- What a unit's end makes of kernel and runner, where it unloads a module: that of the running domain is gone.
-pub record Unloads (k : KernelState) (run : Running) (id domain : ℕ) (moved : Moved) : Type 0 where
+pub record Unloads (k : KernelState) (r : RunnerState) (run : Running) (id domain : ℕ) (moved : Moved) : Type 0 where
   pub kernel : moved.kernel ≡ gone k id domain
+  pub runner : moved.runner ≡ emptied r domain
   pub id_of : id_at k.modules run.domain ≡ id
   pub domain_of : domain ≡ run.domain
 
 module _ (k : KernelState) (r : RunnerState) (run : Running) (h : GoodMachine k r) (i : k.running ≡ Some run) where
-  unloads_by : (moved : Moved) (m : Loaded) → moved.kernel ≡ gone k (id_at k.modules run.domain) run.domain → Contains k.modules m → id_at k.modules run.domain ≡ m.face.id → Unloads k run m.face.id m.domain moved
-  unloads_by moved m e c id =
+  unloads_by : (moved : Moved) (m : Loaded) → moved.kernel ≡ gone k (id_at k.modules run.domain) run.domain → moved.runner ≡ emptied r run.domain → Contains k.modules m → id_at k.modules run.domain ≡ m.face.id → Unloads k r run m.face.id m.domain moved
+  unloads_by moved m e empty c id =
       let domain = row_of_domain k.modules run.domain m h.distinct (running_good k r run h i).0.loaded c id in
       record {
         kernel = e ∙ ap (λ (x : ℕ). gone k x run.domain) id ∙ ap (λ (x : ℕ). gone k m.face.id x) (sym domain);
+        runner = empty ∙ ap (λ (x : ℕ). emptied r x) (sym domain);
         id_of = id;
         domain_of = domain;
       }
 
-  pub faulted_unloads : (note : FaultNote) (lines : List TraceLine) → IsQuiet lines → (time : ℕ) (m : Loaded) → Contains (faulted note run k r lines).lines (line.Unload time m.face.id) → Contains k.modules m → Unloads k run m.face.id m.domain (faulted note run k r lines)
+  pub faulted_unloads : (note : FaultNote) (lines : List TraceLine) → IsQuiet lines → (time : ℕ) (m : Loaded) → Contains (faulted note run k r lines).lines (line.Unload time m.face.id) → Contains k.modules m → Unloads k r run m.face.id m.domain (faulted note run k r lines)
   faulted_unloads note lines quiet time m c cm =
       let is = faulted_is k r run h i note lines in
       let there = subst (λ (x : Moved). Contains x.lines (line.Unload time m.face.id)) is c in
-      unloads_by (faulted note run k r lines) m (ap (λ (x : Moved). x.kernel) is) cm (unloaded_id lines _ k.clock m.face.id time (id_at k.modules run.domain) refl quiet there)
+      unloads_by (faulted note run k r lines) m (ap (λ (x : Moved). x.kernel) is) (ap (λ (x : Moved). x.runner) is) cm (unloaded_id lines _ k.clock m.face.id time (id_at k.modules run.domain) refl quiet there)
 
-  over_unloads : (o : Option ℕ) (lines : List TraceLine) → k.ending ≡ o → IsQuiet lines → (time : ℕ) (m : Loaded) → Contains (settled Over run k r lines).lines (line.Unload time m.face.id) → Contains k.modules m → Unloads k run m.face.id m.domain (settled Over run k r lines)
+  over_unloads : (o : Option ℕ) (lines : List TraceLine) → k.ending ≡ o → IsQuiet lines → (time : ℕ) (m : Loaded) → Contains (settled Over run k r lines).lines (line.Unload time m.face.id) → Contains k.modules m → Unloads k r run m.face.id m.domain (settled Over run k r lines)
   over_unloads None lines e quiet time m c cm =
       absurd (done_quiet run k lines quiet time m.face.id (subst (λ (x : Moved). Contains x.lines (line.Unload time m.face.id)) (over_is run k r lines e) c))
   over_unloads (Some id) lines e quiet time m c cm =
       let is = over_ending_is k r run h i id lines e in
       let there = subst (λ (x : Moved). Contains x.lines (line.Unload time m.face.id)) is c in
-      unloads_by (settled Over run k r lines) m (ap (λ (x : Moved). x.kernel) is) cm
+      unloads_by (settled Over run k r lines) m (ap (λ (x : Moved). x.kernel) is) (ap (λ (x : Moved). x.runner) is) cm
       (last_id (lines ++ line.Done k.clock (id_at k.modules run.domain) ∷ []) k.clock m.face.id time (id_at k.modules run.domain) (done_quiet run k lines quiet) there)
 
-  pub settled_unloads : (e : UnitEnd) (lines : List TraceLine) → IsQuiet lines → (time : ℕ) (m : Loaded) → Contains (settled e run k r lines).lines (line.Unload time m.face.id) → Contains k.modules m → Unloads k run m.face.id m.domain (settled e run k r lines)
+  pub settled_unloads : (e : UnitEnd) (lines : List TraceLine) → IsQuiet lines → (time : ℕ) (m : Loaded) → Contains (settled e run k r lines).lines (line.Unload time m.face.id) → Contains k.modules m → Unloads k r run m.face.id m.domain (settled e run k r lines)
   settled_unloads On lines quiet time m c cm = absurd (quiet time m.face.id c)
   settled_unloads Over lines quiet time m c cm = over_unloads k.ending lines refl quiet time m c cm
   settled_unloads (Fault note) lines quiet time m c cm = faulted_unloads note lines quiet time m c cm
 
 -- The change after a unit's end or a watchdog's strike names nothing of a module whose id the lines unload.
-unloaded_clean : (k : KernelState) (r : RunnerState) (run : Running) (m : Loaded) (moved : Moved) → GoodMachine k r → Contains k.modules m → Unloads k run m.face.id m.domain moved → ¬ Names moved.kernel m.face.id m.domain
+unloaded_clean : (k : KernelState) (r : RunnerState) (run : Running) (m : Loaded) (moved : Moved) → GoodMachine k r → Contains k.modules m → Unloads k r run m.face.id m.domain moved → ¬ Names moved.kernel m.face.id m.domain
 unloaded_clean k r run m moved h c u = subst (λ (x : KernelState). ¬ Names x m.face.id m.domain) (sym u.kernel) (purged_names k r m h c)
 
 made_clean : (c : Choice) (s : State) (got : Acted) → Good s → Facts c s → May c s got → UnloadsCleanly s (made c s got).state (made c s got).lines
@@ -297,6 +299,6 @@ made_clean (Acts run) s got g facts may time m c cm =
 pub turn_unloads : (s t : State) (lines : List TraceLine) → Good s → Turn s t lines → UnloadsCleanly s t lines
 turn_unloads s t lines g turn time m c cm =
     leaves (λ (x : State). ¬ Names x.kernel m.face.id m.domain)
-    (λ x memory same clean names. clean (names_alike x.kernel (with_memory x.kernel memory) m.face.id m.domain refl refl refl refl refl names))
+    (λ free x memory same clean names. clean (names_alike x.kernel (with_memory x.kernel memory) m.face.id m.domain refl refl refl refl refl names))
     (choice s) (made (choice s) s turn.got).state t turn.to
     (made_clean (choice s) s turn.got g (choice_facts s) turn.may time m (subst (λ (xs : List TraceLine). Contains xs (line.Unload time m.face.id)) turn.tells c) cm)

@@ -5,6 +5,7 @@ use Rattle.std.specs.Option.{option_map_or}
 use Rattle.avr_isa.specs.declared.instruction.Instr.{Instr}
 use Rattle.avr_isa.specs.declared.instruction.Instr.TheVariants.{Ldi, Mov, StX}
 use Rattle.mote_base.specs.Messages.{list_of, appended, queue_limit}
+use Rattle.mote_layout.specs.Memory.{pointer_x}
 use Rattle.mote_layout.specs.Store.{may_store as permits}
 use Rattle.unit_code.specs.declared.unit.Unit.{Unit}
 use Rattle.unit_code.specs.declared.unit.Unit.TheVariants.{Plain, Store, KernelCall, Return}
@@ -62,7 +63,7 @@ plain_effect _ p = p
 
 -- The address that a store writes: X is R27:R26.
 abbrev pub store_address : Processor → ℕ
-store_address p = pair p 26
+store_address p = pair p pointer_x
 
 -- The byte that a store writes.
 abbrev pub store_effect : Instr → Processor → Processor

@@ -1,5 +1,5 @@
--- What each choice of a turn says of the state.
-use Rattle.std.specs.Prelude.{◌≡◌, ◌≢◌, ℕ, ◌<◌, ◌≤◌, ⊤, List, [], ◌∷◌, Some, None, slice_get}
+-- What each choice of a turn says of the state, and that it is the choice of such a state.
+use Rattle.std.specs.Prelude.{◌≡◌, ◌≢◌, ◌↔◌, ℕ, ◌<◌, ◌≤◌, ⊤, List, [], ◌∷◌, Some, None, slice_get}
 use Rattle.domain_model.specs.declared.handler.Running.{Running}
 use Rattle.domain_model.specs.declared.event.Event.{Event}
 use Rattle.domain_model.specs.declared.event.Choice.{Choice}
@@ -7,6 +7,7 @@ use Rattle.domain_model.specs.declared.event.Choice.TheVariants.{Stays, Comes, D
 use Rattle.domain_model.specs.declared.event.Turned.TheVariants.{More}
 use Rattle.mote_base.specs.Messages.{front}
 use Rattle.domain_model.specs.State.{Message, State}
+use Rattle.domain_model.specs.Turn.{choice}
 
 -- Outside a handler the first event is due.
 pub record IsDue (e : Event) (s : State) : Type 0 where
@@ -75,3 +76,7 @@ Facts Idles s = IsIdle s
 Facts Budgets s = IsSpent s
 Facts (Watches run) s = IsStruck run s
 Facts (Acts run) s = IsActing run s
+
+-- Which turn comes: that of which this is said of the state, and no other is said of it.
+abbrev pub ChoicesAreFounded : Type 0
+ChoicesAreFounded = (s : State) (c : Choice) → (choice s ≡ c) ↔ Facts c s

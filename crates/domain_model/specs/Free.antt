@@ -1,6 +1,6 @@
 -- The bytes whose values a run leaves open, as an interrupt on the same stack and a kernel's own bytes would:
 -- at every unit the dead bytes of the stack, at every entry of the kernel the kernel's own bytes.
-use Rattle.std.specs.Prelude.{◌≡◌, ℕ, ◌+◌, ◌&&◌, ◌||◌, nat_le, List, length, slice_index, Bool, true, false, Option, Some, None}
+use Rattle.std.specs.Prelude.{◌≡◌, ℕ, ◌+◌, ◌<◌, ◌&&◌, ◌||◌, nat_le, List, length, slice_index, Bool, true, false, Option, Some, None}
 use Rattle.mote_layout.specs.Memory.{ram_start, red_zone_start, kernel_bytes_start, kernel_bytes_end}
 use Rattle.unit_code.specs.declared.unit.Unit.{Unit}
 use Rattle.unit_code.specs.declared.unit.Unit.TheVariants.{KernelCall, SlotCall, SlotIndirect}
@@ -18,10 +18,11 @@ is_dead sp address = nat_le red_zone_start address && nat_le address sp
 abbrev pub is_kernel_byte : ℕ → Bool
 is_kernel_byte address = nat_le kernel_bytes_start address && nat_le address kernel_bytes_end
 
--- Two memories that agree at each address that is not free.
+-- Two memories that agree at each address that is not free. What stands at a free address is a byte.
 pub record SameBut (free : ℕ → Bool) (want got : List ℕ) : Type 0 where
   pub same_length : length got ≡ length want
   pub same : (i : ℕ) → free (i + ram_start) ≡ false → slice_index got i ≡ slice_index want i
+  pub bytes : (i : ℕ) → free (i + ram_start) ≡ true → slice_index got i < 256
 
 -- Two kernels that agree but for their memories' free bytes.
 abbrev pub with_memory : KernelState → List ℕ → KernelState

@@ -2,7 +2,7 @@
 use Rattle.std.specs.Prelude.{◌⊎◌, ℕ, ◌≡◌, ◌≢◌, ◌+◌, ◌^◌, ◌<◌, ◌≤◌, List, [], ◌∷◌, length, Option, Some, None, Ok, Err, true, ⊤}
 use Rattle.std.specs.List.{AllByRecursion}
 use Rattle.mote_base.specs.Messages.{Lists, AreWithinLimit}
-use Rattle.mote_layout.specs.Memory.{ram_bytes, domain_count, stack_top, floor}
+use Rattle.mote_layout.specs.Memory.{register_count, ram_bytes, domain_count, stack_top, floor}
 use Rattle.mote_layout.specs.Limits.{unit_limit, handler_limit}
 use Rattle.mote_layout.specs.Blocks.{AreBlocks}
 use Rattle.mote_layout.specs.declared.segment.Segment.{Segment}
@@ -11,16 +11,19 @@ use Rattle.module_image.specs.declared.face.Face.{Face}
 use Rattle.module_image.specs.Contents.{FaceRules}
 use Rattle.domain_model.specs.declared.handler.Running.{Running}
 use Rattle.domain_model.specs.declared.event.Event.{Event}
+use Rattle.domain_model.specs.Bytes.{AreBytes}
 use Rattle.domain_model.specs.Prepared.{Module, Prep}
 use Rattle.domain_model.specs.Units.{AreProper}
-use Rattle.domain_model.specs.State.{Processor, Message, Loaded, KernelState, RunnerState, State}
+use Rattle.domain_model.specs.State.{Processor, Message, radio, Loaded, KernelState, RunnerState, State}
 use Rattle.domain_model.specs.Act.{bank, id_at, is_loaded}
 use Rattle.domain_model.specs.Turn.{in_use}
 
--- The processor has 32 registers and 4096 bytes of memory.
+-- The processor has all its registers and all bytes of its memory, and each of them is a byte.
 pub record GoodProcessor (p : Processor) : Type 0 where
-  pub registers : length p.registers ≡ 32
+  pub registers : length p.registers ≡ register_count
   pub memory : length p.memory ≡ ram_bytes
+  pub register_bytes : AreBytes p.registers
+  pub memory_bytes : AreBytes p.memory
 
 -- The unit at which a dispatch starts is one of these, and so is that of each function that the face provides.
 pub record AreEntered (units : List Unit) (face : Face) (start : ℕ) (starts : List ℕ) : Type 0 where
@@ -28,11 +31,12 @@ pub record AreEntered (units : List Unit) (face : Face) (start : ℕ) (starts : 
   pub entries : AllByRecursion (λ unit. unit < length units) starts
   pub provided : length starts ≡ length face.provided.items
 
--- A module's face keeps the rules of its fields (its id is 1 to 254), its domain is a domain, and the units in its bank
--- are proper and have its handler and its functions.
+-- A module's face keeps the rules of its fields (its id is 1 to 254), its domain is a domain, its state's address is a
+-- word, and the units in its bank are proper and have its handler and its functions.
 pub record GoodModule (r : RunnerState) (m : Loaded) : Type 0 where
   pub face : FaceRules m.face
   pub domain : m.domain < domain_count
+  pub state : m.state < 2 ^ 16
   pub units : AreProper (bank r m.domain)
   pub entered : AreEntered (bank r m.domain) m.face m.handler m.entries
 
@@ -58,10 +62,19 @@ pub record GoodRunning (k : KernelState) (r : RunnerState) (run : Running) : Typ
   pub bound : run.base ≤ run.bound
   pub top : (run.base ≡ stack_top) × (run.bound ≡ stack_top)
 
--- A message's receiver is loaded, and its sender is the kernel, the radio (255) or loaded.
+-- The numbers of a message fit their places in the message frame: all are bytes, but the word is two.
+pub record IsFramed (m : Message) : Type 0 where
+  pub to : m.to < 256
+  pub from : m.from < 256
+  pub sort : m.sort < 256
+  pub byte : m.byte < 256
+  pub word : m.word < 2 ^ 16
+
+-- A message's receiver is loaded, and its sender is the kernel, the radio or loaded.
 pub record IsKnown (modules : List Loaded) (m : Message) : Type 0 where
   pub receiver : is_loaded modules m.to ≡ true
-  pub sender : ((m.from ≡ 0) ⊎ (m.from ≡ 255)) ⊎ (is_loaded modules m.from ≡ true)
+  pub sender : ((m.from ≡ 0) ⊎ (m.from ≡ radio)) ⊎ (is_loaded modules m.from ≡ true)
+  pub framed : IsFramed m
 
 abbrev pub GoodHand : List Loaded → Option Message → Type 0
 GoodHand modules None = ⊥
@@ -105,9 +118,13 @@ IsGoodImage None = ⊤
 IsGoodImage (Some (Err refusal)) = ⊤
 IsGoodImage (Some (Ok m)) = GoodImage m
 
--- the times of events that are still to come
+-- The times of events that are still to come: from a moment on they don't fall, and each is one that a script can name.
+abbrev pub AreTimesFrom : ℕ → List Event → Type 0
+AreTimesFrom before [] = ⊤
+AreTimesFrom before (e ∷ es) = (before ≤ e.time) × (e.time < 2 ^ 32) × AreTimesFrom e.time es
+
 abbrev pub AreTimes : List Event → Type 0
-AreTimes events = AllByRecursion (λ e. e.time < 2 ^ 32) events
+AreTimes events = AreTimesFrom 0 events
 
 pub record Good (s : State) : Type 0 where
   pub machine : GoodMachine s.kernel s.runner

@@ -1,6 +1,6 @@
 -- What holds of every turn of every run.
-use Rattle.std.specs.Prelude.{◌≡◌, ◌≢◌, ◌⊎◌, ℕ, ◌+◌, ◌≤◌, List, Option, Some, None, Contains, true, false, slice_index, ⊤}
-use Rattle.mote_base.specs.Messages.{in_order}
+use Rattle.std.specs.Prelude.{◌≡◌, ◌≢◌, ◌⊎◌, ℕ, ◌+◌, ◌≤◌, List, [], Option, Some, None, Contains, true, false, slice_index, ⊤}
+use Rattle.mote_base.specs.Messages.{in_order, unnamed}
 use Rattle.module_image.specs.Links.{bound_slot}
 use Rattle.mote_layout.specs.Memory.{ram_start, red_zone_start, kernel_bytes_start, kernel_bytes_end, kernel}
 use Rattle.mote_layout.specs.Blocks.{without_owner, owns}
@@ -11,10 +11,10 @@ use Rattle.domain_model.specs.declared.fault.FaultNote.{FaultNote}
 use Rattle.domain_model.specs.declared.fault.UnitEnd.TheVariants.{Fault}
 use Rattle.domain_model.specs.declared.line.TraceLine.{TraceLine}
 use Rattle.domain_model.specs.declared.line.TraceLine.TheVariants as line
-use Rattle.domain_model.specs.State.{Message, Loaded, KernelState, State, seats}
-use Rattle.domain_model.specs.Act.{act}
+use Rattle.domain_model.specs.State.{Message, Loaded, KernelState, RunnerState, State, seats}
+use Rattle.domain_model.specs.Act.{act, bank}
 use Rattle.domain_model.specs.Free.{enters_kernel}
-use Rattle.domain_model.specs.Turn.{choice, unnamed, without_domain, Turn, RunBy, RunFrom}
+use Rattle.domain_model.specs.Turn.{choice, without_domain, Turn, RunBy, RunFrom}
 use Rattle.domain_model.specs.Good.{Good}
 
 -- Confinement.
@@ -38,10 +38,11 @@ abbrev pub MayChangeAtFault : KernelState → ℕ → Type 0
 MayChangeAtFault k address =
     ((red_zone_start ≤ address) × (address ≤ k.processor.sp)) ⊎ ((kernel_bytes_start ≤ address) × (address ≤ kernel_bytes_end))
 
--- A unit that is no entry of the kernel changes what is the running domain's and nothing else, and a unit
--- that faults changes none of the domains' bytes.
+-- A unit that is no entry of the kernel changes what is the running domain's and nothing else, and no units in any bank;
+-- and a unit that faults changes none of the domains' bytes.
 pub record Confined (s t : State) : Type 0 where
   pub between : (run : Running) → choice s ≡ Acts run → enters_kernel s.kernel s.runner ≡ false → KeepsOthers s.kernel run t.kernel
+  pub units : (run : Running) → choice s ≡ Acts run → enters_kernel s.kernel s.runner ≡ false → t.runner.banks ≡ s.runner.banks
   pub at_fault : (run : Running) (note : FaultNote) → choice s ≡ Acts run → (act s.kernel s.runner).ending ≡ Fault note → (i : ℕ) → slice_index t.kernel.processor.memory i ≢ slice_index s.kernel.processor.memory i → MayChangeAtFault s.kernel (i + ram_start)
 
 -- Crossing.
@@ -91,10 +92,16 @@ pub record KeepsTheRest (k : KernelState) (id domain : ℕ) (new : KernelState) 
   pub blocks : new.blocks ≡ without_owner domain k.blocks
   pub bytes : (other i : ℕ) → other ≢ domain → owns k.blocks other (i + ram_start) ≡ true → slice_index new.processor.memory i ≡ slice_index k.processor.memory i
 
--- Where a turn says that a module is unloaded, the others are as they were.
+-- The units of the other domains stay, and those of this one are gone.
+pub record KeepsOtherUnits (r : RunnerState) (domain : ℕ) (new : RunnerState) : Type 0 where
+  pub others : (other : ℕ) → other ≢ domain → bank new other ≡ bank r other
+  pub gone : bank new domain ≡ []
+
+-- Where a turn says that a module is unloaded, the others are as they were, with their units.
 abbrev pub UnloadsAlone : State → State → List TraceLine → Type 0
 UnloadsAlone s t lines =
-    (time : ℕ) (m : Loaded) → Contains lines (line.Unload time m.face.id) → Contains s.kernel.modules m → KeepsTheRest s.kernel m.face.id m.domain t.kernel
+    (time : ℕ) (m : Loaded) → Contains lines (line.Unload time m.face.id) → Contains s.kernel.modules m →
+    KeepsTheRest s.kernel m.face.id m.domain t.kernel × KeepsOtherUnits s.runner m.domain t.runner
 
 -- A turn, with all that holds of it.
 pub record LawfulTurn (s t : State) (lines : List TraceLine) : Type 0 where

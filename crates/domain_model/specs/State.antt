@@ -1,6 +1,6 @@
 -- The state of the machine.
 use Rattle.std.specs.Prelude.{⊤, ℕ, ◌+◌, ◌-◌, ◌*◌, List, [], ◌∷◌, ◌++◌, Option, None, slice_index, slice_set, replicate, take, drop, map}
-use Rattle.mote_layout.specs.Memory.{ram_start, ram_bytes, message_frame_bytes, domain_count, stack_top}
+use Rattle.mote_layout.specs.Memory.{register_count, ram_start, ram_bytes, message_frame, message_frame_bytes, domain_count, stack_top}
 use Rattle.mote_base.specs.declared.message.Msg.{Msg}
 use Rattle.mote_base.specs.Messages.{Lists}
 use Rattle.mote_layout.specs.declared.segment.Segment.{Segment}
@@ -21,6 +21,10 @@ pub record Processor : Type 0 where
   pub sreg : ℕ
   pub sp : ℕ
   pub memory : List ℕ
+
+-- The radio as a sender of messages.
+abbrev pub radio : ℕ
+radio = 255
 
 -- A message. None has a payload yet.
 abbrev pub Message : Type 0
@@ -115,11 +119,11 @@ frame_of m = m.sort ∷ m.from ∷ m.to ∷ 0 ∷ m.byte ∷ low m.word ∷ high
 abbrev pub dispatched : Processor → ℕ → Message → Processor
 dispatched p state m =
     with_pair (with_pair (record {
-      registers = replicate 32 0;
+      registers = replicate register_count 0;
       sreg = 0;
       sp = stack_top;
       memory = frame_of m ++ drop message_frame_bytes p.memory;
-    }) 22 ram_start) 24 state
+    }) 22 message_frame) 24 state
 
 -- At the beginning every byte and register is 0. (Of the kernel's bytes and of the stack the first turns
 -- leave nothing that this says, since they are free.)
@@ -127,7 +131,7 @@ unfoldable pub no_bytes : List ℕ
 no_bytes = replicate ram_bytes 0
 
 abbrev pub no_processor : Processor
-no_processor = record { registers = replicate 32 0; sreg = 0; sp = 0; memory = no_bytes }
+no_processor = record { registers = replicate register_count 0; sreg = 0; sp = 0; memory = no_bytes }
 
 abbrev pub no_kernel : KernelState
 no_kernel =

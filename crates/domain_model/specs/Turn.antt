@@ -2,7 +2,7 @@
 use Rattle.std.specs.Prelude.{◌≡◌, ◌≢◌, ℕ, ◌+◌, ◌-◌, ◌*◌, ◌==◌, ◌||◌, nat_le, not, List, [], ◌∷◌, ◌++◌, drop, filter, find, Bool, true, false, Option, Some, None, Ok, Err, slice_get, slice_set, ⊤}
 use Rattle.std.specs.List.{list_any}
 use Rattle.mote_layout.specs.Memory.{ram_start, heap_end, block_bytes, domain_count, stack_top}
-use Rattle.mote_base.specs.Messages.{Lists, front, without_front, names}
+use Rattle.mote_base.specs.Messages.{front, without_front, unnamed}
 use Rattle.mote_layout.specs.Blocks.{block_address, inserted, without_owner}
 use Rattle.mote_layout.specs.Fit.{fit, blocks_for, least_of}
 use Rattle.mote_layout.specs.declared.segment.Segment.{Segment}
@@ -85,15 +85,9 @@ begun k domain state m =
 abbrev pub handler_ended : KernelState → KernelState
 handler_ended k = record k { running = None; hand = None }
 
--- the modules but the one in a domain, and the messages but those from or to an id
+-- the modules but the one in a domain
 abbrev pub without_domain : ℕ → List Loaded → List Loaded
 without_domain domain modules = filter (λ m. not (m.domain == domain)) modules
-
-abbrev pub without_named : ℕ → List Message → List Message
-without_named id messages = filter (λ m. not (names id m)) messages
-
-abbrev pub unnamed : ℕ → Lists Message → Lists Message
-unnamed id queues = record { high = without_named id queues.high; low = without_named id queues.low }
 
 -- The module with an id in a domain is out: its row, every block of its domain, and every message from or to it.
 abbrev pub purged : KernelState → ℕ → ℕ → KernelState
@@ -255,14 +249,14 @@ dispatch None k r = record { kernel = k; runner = r; lines = [] }
 dispatch (Some m) k r = deliver (module_named k.modules m.to) m k r
 
 -- At the end of a handler the module that ends is purged, where it is still loaded.
-abbrev pub ended : KernelState → KernelState
-ended k = record k { ending = None }
+abbrev pub with_none_ending : KernelState → KernelState
+with_none_ending k = record k { ending = None }
 
 abbrev pub close_module : Option Loaded → KernelState → RunnerState → List TraceLine → Moved
-close_module None k r lines = record { kernel = ended k; runner = r; lines = lines }
+close_module None k r lines = record { kernel = with_none_ending k; runner = r; lines = lines }
 close_module (Some m) k r lines =
     record {
-      kernel = ended (purged k m.face.id m.domain);
+      kernel = with_none_ending (purged k m.face.id m.domain);
       runner = emptied r m.domain;
       lines = lines ++ line.Unload k.clock m.face.id ∷ [];
     }

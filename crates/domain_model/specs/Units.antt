@@ -2,6 +2,7 @@
 use Rattle.std.specs.Prelude.{◌==◌, ℕ, ◌<◌, if◌then◌else◌, List, Bool, true, false, Option, Some, None, is_some, IsSome, ⊤}
 use Rattle.std.specs.List.{AllByRecursion, list_all}
 use Rattle.avr_isa.specs.declared.instruction.Instr.TheVariants.{Ldi, Mov, StX}
+use Rattle.mote_layout.specs.Memory.{register_count}
 use Rattle.unit_code.specs.declared.unit.Unit.{Unit}
 use Rattle.unit_code.specs.declared.unit.Unit.TheVariants.{Plain, Store, KernelCall, Return}
 use Rattle.unit_code.specs.Proper.{IsProper}
@@ -33,10 +34,10 @@ are_built us = list_all is_built us
 
 -- The same, with the operands in their ranges.
 abbrev pub IsBuilt : Unit → Type 0
-IsBuilt (Plain (Ldi d k)) = (d < 32) × (k < 256)
-IsBuilt (Plain (Mov d r)) = (d < 32) × (r < 32)
+IsBuilt (Plain (Ldi d k)) = (d < register_count) × (k < 256)
+IsBuilt (Plain (Mov d r)) = (d < register_count) × (r < register_count)
 IsBuilt (Plain _) = ⊥
-IsBuilt (Store (StX r)) = r < 32
+IsBuilt (Store (StX r)) = r < register_count
 IsBuilt (Store _) = ⊥
 IsBuilt (KernelCall n) = IsSome (service_of n)
 IsBuilt Return = ⊤

@@ -1,10 +1,18 @@
 //! The laws of the machine. Each stands over the definitions alone.
+ghost use Rattle.domain_model.specs.Facts.{ChoicesAreFounded};
 ghost use Rattle.domain_model.specs.Files.{FilesAreAsPrepared};
 ghost use Rattle.domain_model.specs.Laws.{TurnsAreLawful, RunsAreLawful, RunsEnd};
 
-/// Law: every turn from a good state keeps it good, is confined to what is the running domain's, changes the
-/// running domain only by a dispatch or the handler's end, unloads cleanly and leaves the other modules as
-/// they were; and so does every turn of a run from a good state.
+/// Law: which turn comes, in words. Outside a handler an event that is due comes; else a message that waits is
+/// dispatched; else the clock jumps to the next event; else the run ends. In a handler the run ends where its budget is
+/// spent; else the watchdog strikes where the handler's is; else a unit runs.
+pub fn turns_come_as_the_state_says()
+    ensures { ChoicesAreFounded }
+{}
+
+/// Law: every turn from a good state keeps it good, is confined to what is the running domain's and to no unit, changes
+/// the running domain only by a dispatch or the handler's end, unloads cleanly and leaves the other modules and their
+/// units as they were; and so does every turn of a run from a good state.
 pub fn every_turn_is_lawful()
     ensures turns { TurnsAreLawful }
     ensures runs { RunsAreLawful }

@@ -24,13 +24,14 @@ mod line;
 mod lines;
 mod refusal;
 mod request;
-#[cfg(test)]
-mod tests;
 
 pub use event::{Choice, Event, Turned, What};
 pub use fault::{FaultNote, Rule, UnitEnd};
 pub use handler::Running;
-pub use laws::{every_good_state_runs_to_an_end, every_turn_is_lawful, files_are_as_prepared};
+pub use laws::{
+    every_good_state_runs_to_an_end, every_turn_is_lawful, files_are_as_prepared,
+    turns_come_as_the_state_says,
+};
 pub use line::TraceLine;
 pub use lines::Lines;
 pub use refusal::Refusal;

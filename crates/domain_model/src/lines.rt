@@ -1,15 +1,14 @@
 //! The lines that one turn writes.
 ghost use Rattle.std.specs.Prelude.{◌≡◌, ◌<◌, [], ◌∷◌, ◌++◌, length, IfOk};
+ghost use Rattle.mote_layout.specs.Limits.{turn_lines};
 
 use crate::line::TraceLine;
 use mote_base::NoMemory;
+use mote_layout::LINES_PER_TURN;
 use std::alloc::Global;
 use std::marker::Model;
 
-/// How many lines a turn may write.
-const LIMIT: usize = 512;
-
-/// At most 512 trace lines, kept in memory that is taken once.
+/// At most `LINES_PER_TURN` trace lines, kept in memory that is taken once.
 #[derive(Drop)]
 pub struct Lines {
     items: Vec<TraceLine>,
@@ -17,13 +16,14 @@ pub struct Lines {
 
 impl Model for Lines {
     ghost use Rattle.std.specs.Prelude.{◌≤◌, List, length, vec_capacity};
+    ghost use Rattle.mote_layout.specs.Limits.{turn_lines};
     ghost use Rattle.domain_model.specs.declared.line.TraceLine.{TraceLine};
 
     ghost Value = { List TraceLine };
 
     ghost view = { λ lines. lines.items.items };
 
-    ghost invariant = { λ lines. (512 ≤ vec_capacity lines.items) × (length lines.items.items ≤ 512) };
+    ghost invariant = { λ lines. (turn_lines ≤ vec_capacity lines.items) × (length lines.items.items ≤ turn_lines) };
 }
 
 impl Lines {
@@ -31,7 +31,7 @@ impl Lines {
     pub fn new(alloc: Global) -> Result<Lines, NoMemory>
         ensures { IfOk result (λ lines. lines ≡ []) }
     {
-        let items = Vec::with_capacity(alloc, LIMIT)?;
+        let items = Vec::with_capacity(alloc, LINES_PER_TURN)?;
         Ok(Lines { items })
     }
 
@@ -48,7 +48,7 @@ impl Lines {
     }
 
     pub fn add(&mut self, line: TraceLine)
-        requires { length self.old < 512 }
+        requires { length self.old < turn_lines }
         ensures { self.new ≡ self.old ++ line ∷ [] }
     {
         let _pushed = self.items.push(line);

@@ -13,8 +13,6 @@ mod laws;
 mod links;
 mod seat;
 mod slots;
-#[cfg(test)]
-mod tests;
 
 pub use laws::bound_slot_laws;
 pub use links::Links;

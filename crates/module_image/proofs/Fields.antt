@@ -1,14 +1,15 @@
 -- A field that is read is the field that was written, and what was written is read again.
-use Rattle.std.proofs.Common.{◌≡◌, ℕ, suc, ◌+◌, ◌*◌, ◌<◌, ◌≤◌, ◌||◌, Bool, true, false, cond, ltb, eqb, List, [], ◌∷◌, ◌++◌, length, get_or, take, drop, Result, Ok, Err, refl, sym, ap, subst, ◌∙◌, append_assoc, arith}
+use Rattle.std.proofs.Common.{◌≡◌, ◌⊎◌, ℕ, suc, ◌+◌, ◌*◌, ◌<◌, ◌≤◌, ◌||◌, Bool, true, false, cond, ltb, eqb, List, [], ◌∷◌, ◌++◌, length, get_or, take, drop, Result, Ok, Err, refl, sym, ap, subst, ◌∙◌, append_assoc, zero, inl, inr, arith}
 use Rattle.std.proofs.lemmas.Bool.{ltb-false, le-ltb, eqb-true}
-use Rattle.std.proofs.lemmas.List.{take-append-drop, length-append, get_or-drop}
+use Rattle.std.proofs.lemmas.List.{take-append-drop, length-append, length-take-le, get_or-drop}
 use Rattle.std.specs.Cmp.Lexicographic.{pointwise, same_text}
 use Rattle.byteorder.specs.Endian.{little_number}
 use Rattle.module_image.specs.declared.error.ImageError.{ImageError}
 use Rattle.module_image.specs.declared.error.ImageError.TheVariants.{Short, Magic, Version, Field}
-use Rattle.module_image.specs.Contents.{IsWord, IsPrototype}
+use Rattle.mote_base.specs.Words.{IsWord}
+use Rattle.module_image.specs.Contents.{IsPrototype, IsVersion, first_version, second_version}
 use Rattle.module_image.specs.Spelling.{word, opening}
-use Rattle.module_image.specs.Reading.{◌>>=◌, byte_at, number_at, prototype_at, magic_at, version_at, opening_at}
+use Rattle.module_image.specs.Reading.{◌>>=◌, byte_at, number_at, limited_at, bytes_at, prototype_at, magic_at, version_at, opening_at}
 
 abbrev pub IsBytes : List ℕ → Type 0
 IsBytes bytes = (i : ℕ) → get_or bytes i 0 < 256
@@ -83,6 +84,51 @@ number_again place n rest fits =
     let long : ltb (length (word n ++ rest)) 2 ≡ false = le-ltb _ _ (omega (arith, length-append (word n) rest)) in
     rw (long, word_again n rest fits) refl
 
+pub limited_takes : (place most : ℕ) (bytes : List ℕ) (x : ℕ × List ℕ) → IsBytes bytes → limited_at place most bytes ≡ Ok x → Takes bytes (word x.0) x.1 × IsWord x.0 × (x.0 ≤ most)
+limited_takes place most bytes x fits e =
+    let g = guard_ok (ltb (length bytes) 2) (Short (place + length bytes)) (cond (ltb most (little_number 2 bytes)) (Err (Field place)) (Ok (little_number 2 bytes, drop 2 bytes))) x e in
+    let h = guard_ok (ltb most (little_number 2 bytes)) (Field place) (Ok (little_number 2 bytes, drop 2 bytes)) x g.1 in
+    let any : number_at place bytes ≡ Ok x = rw g.0 h.1 in
+    let takes = number_takes place bytes x fits any in
+    let low : little_number 2 bytes ≤ most = ltb-false _ _ h.0 in
+    (takes.0, takes.1, subst (λ (y : ℕ × List ℕ). y.0 ≤ most) (ok_is (little_number 2 bytes, drop 2 bytes) x h.1) low)
+
+pub limited_again : (place most n : ℕ) (rest : List ℕ) → IsWord n → n ≤ most → limited_at place most (word n ++ rest) ≡ Ok (n, rest)
+limited_again place most n rest fits low =
+    let long : ltb (length (word n ++ rest)) 2 ≡ false = le-ltb _ _ (omega (arith, length-append (word n) rest)) in
+    let same = word_again n rest fits in
+    let kept : ltb most (little_number 2 (word n ++ rest)) ≡ false = rw same (le-ltb _ _ low) in
+    rw (long, kept, same) refl
+
+-- ---- so many bytes
+
+pub bytes_take : (count place : ℕ) (bytes : List ℕ) (x : List ℕ × List ℕ) → IsBytes bytes → bytes_at count place bytes ≡ Ok x → Takes bytes x.0 x.1 × (length x.0 ≡ count) × IsBytes x.0
+bytes_take count place bytes x fits e =
+    let g = guard_ok (ltb (length bytes) count) (Short (place + length bytes)) (Ok (take count bytes, drop count bytes)) x e in
+    let long : count ≤ length bytes = ltb-false _ _ g.0 in
+    let after : IsBytes (drop count bytes) = λ i. rw get_or-drop (fits (count + i)) in
+    subst (λ (y : List ℕ × List ℕ). Takes bytes y.0 y.1 × (length y.0 ≡ count) × IsBytes y.0) (ok_is (take count bytes, drop count bytes) x g.1)
+    (record { parts = sym (take-append-drop count bytes); rest_fits = after }, length-take-le count bytes long, front_fits count bytes fits)
+  where
+    front_fits : (n : ℕ) (bs : List ℕ) → IsBytes bs → IsBytes (take n bs)
+    front_fits zero bs fit i = omega arith
+    front_fits (suc n) [] fit i = omega arith
+    front_fits (suc n) (b ∷ bs) fit zero = fit 0
+    front_fits (suc n) (b ∷ bs) fit (suc i) = front_fits n bs (λ k. fit (suc k)) i
+
+pub bytes_again : (place : ℕ) (bytes rest : List ℕ) → bytes_at (length bytes) place (bytes ++ rest) ≡ Ok (bytes, rest)
+bytes_again place bytes rest =
+    let long : ltb (length (bytes ++ rest)) (length bytes) ≡ false = le-ltb _ _ (omega (arith, length-append bytes rest)) in
+    rw (long, take-front bytes rest, drop-front bytes rest) refl
+  where
+    take-front : (xs ys : List ℕ) → take (length xs) (xs ++ ys) ≡ xs
+    take-front [] ys = refl
+    take-front (x ∷ xs) ys = ap (λ (t : List ℕ). x ∷ t) (take-front xs ys)
+
+    drop-front : (xs ys : List ℕ) → drop (length xs) (xs ++ ys) ≡ ys
+    drop-front [] ys = refl
+    drop-front (x ∷ xs) ys = drop-front xs ys
+
 -- ---- prototypes
 
 pub prototype_takes : (place : ℕ) (bytes : List ℕ) (x : List ℕ × List ℕ) → IsBytes bytes → prototype_at place bytes ≡ Ok x → Takes bytes x.0 x.1 × IsPrototype x.0
@@ -122,22 +168,31 @@ magic_takes bytes rest fits e =
     let after : IsBytes (drop 4 bytes) = λ i. rw get_or-drop (fits (4 + i)) in
     subst (λ (r : List ℕ). Takes bytes (0x53 ∷ 0x4F ∷ 0x53 ∷ 0x4D ∷ []) r) (ok_is (drop 4 bytes) rest p.1) (record { parts = whole; rest_fits = after })
 
-version_takes : (bytes rest : List ℕ) → IsBytes bytes → version_at bytes ≡ Ok rest → Takes bytes (1 ∷ []) rest
-version_takes [] rest fits e = absurd cc
-version_takes (v ∷ others) rest fits e =
-    let p = pass_ok (eqb v 1) (Version v) (Ok others) rest e in
-    let one : v ≡ 1 = eqb-true v 1 p.0 in
-    subst (λ (r : List ℕ). Takes (v ∷ others) (1 ∷ []) r) (ok_is others rest p.1) (record { parts = ap (λ (b : ℕ). b ∷ others) one; rest_fits = λ i. fits (suc i) })
+pub either : (a b : Bool) → (a || b) ≡ true → (a ≡ true) ⊎ (b ≡ true)
+either true b e = inl refl
+either false b e = inr e
 
-pub opening_takes : (file rest : List ℕ) → IsBytes file → opening_at file ≡ Ok rest → Takes file opening rest
+version_takes : (bytes : List ℕ) (x : ℕ × List ℕ) → IsBytes bytes → version_at bytes ≡ Ok x → Takes bytes (x.0 ∷ []) x.1 × IsVersion x.0
+version_takes [] x fits e = absurd cc
+version_takes (v ∷ rest) x fits e =
+    let p = pass_ok (eqb v first_version || eqb v second_version) (Version v) (Ok (v, rest)) x e in
+    let known : IsVersion v = elim (either _ _ p.0) [ inl one ↦ inl (eqb-true v first_version one) | inr two ↦ inr (eqb-true v second_version two) ] in
+    subst (λ (y : ℕ × List ℕ). Takes (v ∷ rest) (y.0 ∷ []) y.1 × IsVersion y.0) (ok_is (v, rest) x p.1) (record { parts = refl; rest_fits = λ i. fits (suc i) }, known)
+
+version_again : (v : ℕ) (rest : List ℕ) → IsVersion v → version_at (v ∷ rest) ≡ Ok (v, rest)
+version_again v rest known =
+    elim known [ inl one ↦ rw one refl | inr two ↦ rw two refl ]
+
+pub opening_takes : (file : List ℕ) (x : ℕ × List ℕ) → IsBytes file → opening_at file ≡ Ok x → Takes file (opening x.0) x.1 × IsVersion x.0
 unfolding opening_at
-opening_takes file rest fits e =
-    let a = bind_ok (magic_at file) version_at rest e in
+opening_takes file x fits e =
+    let a = bind_ok (magic_at file) version_at x e in
     let magic = magic_takes file a.0 fits a.1 in
-    Takes-then file (0x53 ∷ 0x4F ∷ 0x53 ∷ 0x4D ∷ []) a.0 (1 ∷ []) rest magic (version_takes a.0 rest magic.rest_fits a.2)
+    let version = version_takes a.0 x magic.rest_fits a.2 in
+    (Takes-then file (0x53 ∷ 0x4F ∷ 0x53 ∷ 0x4D ∷ []) a.0 (x.0 ∷ []) x.1 magic version.0, version.1)
 
-pub opening_again : (rest : List ℕ) → opening_at (opening ++ rest) ≡ Ok rest
+pub opening_again : (v : ℕ) (rest : List ℕ) → IsVersion v → opening_at (opening v ++ rest) ≡ Ok (v, rest)
 unfolding opening_at
-opening_again rest =
-    let long : ltb (length (opening ++ rest)) 4 ≡ false = le-ltb _ _ (omega (arith, length-append opening rest)) in
-    rw long refl
+opening_again v rest known =
+    let long : ltb (length (opening v ++ rest)) 4 ≡ false = le-ltb _ _ (omega (arith, length-append (opening v) rest)) in
+    rw long (version_again v rest known)

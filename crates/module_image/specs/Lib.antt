@@ -1,4 +1,5 @@
 pub mod Contents
+pub mod Laws
 pub mod Links
 pub mod Reading
 pub mod Refusal

@@ -13,13 +13,13 @@ pub enum ImageError {
     /// The file doesn't begin with `SOSM`.
     #[error("the file is no image")]
     Magic,
-    /// The format's version isn't 1. The value is the version.
+    /// The format's version is neither 1 nor 2. The value is the version.
     #[error("version {0} of the format is unknown")]
     Version(u8),
     /// A field breaks its rule. The value is the place of its first byte.
     #[error("the field at byte {0} breaks its rule")]
     Field(u32),
-    /// Bytes follow the code. The value is the place of the first of them.
+    /// Bytes follow the last field. The value is the place of the first of them.
     #[error("the image ends before byte {0}")]
     Long(u32),
 }

@@ -2,6 +2,7 @@
 ghost use Rattle.std.specs.Prelude.{◌≡◌};
 
 use arrayvec::ArrayVec;
+use mote_layout::{PROVIDED, SUBSCRIBED};
 
 /// A function that a module provides.
 #[derive(Clone, Copy, Debug, Default, PartialEq, Eq)]
@@ -29,8 +30,8 @@ pub struct Face {
     /// The module's id, from 1 to 254.
     pub id: u8,
     /// By rising function ids.
-    pub provided: ArrayVec<Provided, 16>,
-    pub subscribed: ArrayVec<Subscribed, 16>,
+    pub provided: ArrayVec<Provided, PROVIDED>,
+    pub subscribed: ArrayVec<Subscribed, SUBSCRIBED>,
 }
 
 impl Face {
@@ -46,7 +47,7 @@ impl Face {
     }
 }
 
-fn copied<T: Copy + Default + Drop>(items: &ArrayVec<T, 16>) -> ArrayVec<T, 16>
+fn copied<T: Copy + Default + Drop, const N: usize>(items: &ArrayVec<T, N>) -> ArrayVec<T, N>
     ensures { result.items ≡ items.now.items }
 {
     let mut copy = ArrayVec::new();

@@ -1,7 +1,7 @@
 //! The kinds of field. Each call reads the field at the front of the bytes, which stands at that place of the file, and gives
 //! its value and the bytes after it.
-ghost use Rattle.std.specs.Prelude.{◌≡◌, ◌<◌, ◌≤◌, ◌^◌, IfOk};
-ghost use Rattle.module_image.specs.Reading.{Gives, byte_at, number_at, prototype_at};
+ghost use Rattle.std.specs.Prelude.{◌≡◌, ◌<◌, ◌≤◌, ◌^◌, length, IfOk};
+ghost use Rattle.module_image.specs.Reading.{Gives, byte_at, number_at, limited_at, bytes_at, prototype_at};
 
 use crate::ImageError;
 use byteorder::{ByteOrder, LittleEndian};
@@ -31,6 +31,37 @@ pub fn number(at: u32, bytes: &[u8]) -> Result<(u16, &[u8]), ImageError>
     }
     let (front, rest) = bytes.split_at(2);
     Ok((LittleEndian::read_u16(front), rest))
+}
+
+/// A number of two bytes that is at most `most`.
+pub fn limited(at: u32, most: u16, bytes: &[u8]) -> Result<(u16, &[u8]), ImageError>
+    requires { at < 2 ^ 31 }
+    ensures exact { Gives (λ x. (x.0, x.1.now)) result (limited_at at most bytes.now) }
+    ensures range { IfOk result (λ x. x.0 ≤ most) }
+{
+    if bytes.len() < 2 {
+        return Err(ImageError::Short(at + bytes.len() as u32));
+    }
+    let (front, rest) = bytes.split_at(2);
+    let number = LittleEndian::read_u16(front);
+    if number > most {
+        return Err(ImageError::Field(at));
+    }
+    Ok((number, rest))
+}
+
+/// So many bytes.
+pub fn part(count: u32, at: u32, bytes: &[u8]) -> Result<(&[u8], &[u8]), ImageError>
+    requires count { count < 2 ^ 30 }
+    requires at { at < 2 ^ 31 }
+    ensures exact { Gives (λ x. (x.0.now, x.1.now)) result (bytes_at count at bytes.now) }
+    ensures len { IfOk result (λ x. length x.0.now ≡ count) }
+{
+    let count = count as usize;
+    if bytes.len() < count {
+        return Err(ImageError::Short(at + bytes.len() as u32));
+    }
+    Ok(bytes.split_at(count))
 }
 
 /// The four characters of a prototype, each a field of its own.

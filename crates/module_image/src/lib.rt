@@ -10,14 +10,13 @@ mod field;
 mod laws;
 mod parts;
 mod reading;
-#[cfg(test)]
-mod tests;
 mod view;
 mod writing;
 
 pub use error::ImageError;
 pub use face::{Face, Provided, Subscribed};
-pub use laws::one_reading;
+pub use laws::{one_reading, refusals_by_the_bytes};
+pub use parts::{CONSTANTS, FIRST_VERSION, SECOND_VERSION};
 pub use reading::parse;
-pub use view::ImageView;
-pub use writing::write_image;
+pub use view::{ImageView, MARKS};
+pub use writing::{write_image, write_image2};

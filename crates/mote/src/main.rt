@@ -6,13 +6,11 @@
 
 mod shelf;
 mod sink;
-#[cfg(test)]
-mod tests;
 
 use mote_base::{Status, Word};
 use mote_sim::mote_main;
 use shelf::FileShelf;
-use sink::StdSink;
+use sink::WriterSink;
 use std::alloc::Global;
 use std::env;
 use std::io::ErrorKind;
@@ -46,10 +44,10 @@ fn main(rt: HostRuntime) -> ExitCode {
     let status = match words_of(&rt, alloc) {
         Err(status) => status,
         Ok(words) => {
-            let mut out = StdSink::new(rt.stdout());
+            let mut out = WriterSink::new(rt.stdout());
             let mut shelf = FileShelf::new(&rt);
             mote_main(alloc, &words, &mut shelf, &mut out)
         }
     };
-    ExitCode::from(status as u8)
+    ExitCode::from(status.code())
 }

@@ -1,10 +1,14 @@
 //! The files of the system.
-ghost use Rattle.std.specs.Prelude.{◌≡◌, ◌≤◌, length, drop, is_some, true, false, None, IfOk};
+ghost use Rattle.std.specs.Prelude.{◌≡◌, ◌<◌, ◌≤◌, length, take, drop, is_some, ⊤, true, false, None, IfOk, OnErr};
+ghost use Rattle.std.specs.Io.KnownBytes.{Consumes, IsAtEnd, Keeps};
 
 use mote_base::{Failed, Shelf, Word};
 use std::fs::File;
 use std::io;
 use std::io::Read;
+
+#[cfg(test)]
+mod tests;
 
 /// The files of the system, by their paths. It tells no content, and may be asked for every name.
 ///
@@ -33,8 +37,11 @@ impl<'a> FileShelf<'a> {
 const CHUNK: usize = 4096;
 
 // One read. One that a signal cut short is made again.
-fn read_once(file: &mut File, buf: &mut [u8]) -> io::Result<usize>
-    ensures { IfOk result (λ n. n ≤ length buf.new) }
+fn read_once<R: Read>(file: &mut R, buf: &mut [u8]) -> io::Result<usize>
+    ensures bound { IfOk result (λ n. n ≤ length buf.new) }
+    ensures bytes { IfOk result (λ n. Consumes (R.remaining file.old) (R.remaining file.new) (take n buf.new)) }
+    ensures end { IfOk result (λ n. n ≡ 0 → 0 < length buf.old → IsAtEnd (R.remaining file.new)) }
+    ensures kept { OnErr result (Keeps (R.remaining file.old) (R.remaining file.new)) }
 {
     for _ in 0..u64::MAX {
         match file.read(buf) {
@@ -49,17 +56,24 @@ fn read_once(file: &mut File, buf: &mut [u8]) -> io::Result<usize>
     Err(io::Error::from(io::ErrorKind::Interrupted))
 }
 
-// The next bytes of a file. They are read into a chunk and copied, since no clause of std says that a read
-// leaves the rest of its buffer.
-fn read_some(file: &mut File, buf: &mut [u8]) -> io::Result<usize>
+// The next bytes of a file: none only at its end and for an empty buffer. An error is a failure, and gave no byte. They
+// are read into a chunk and copied, since no clause of std says that a read leaves the rest of its buffer.
+fn read_some<R: Read>(file: &mut R, buf: &mut [u8]) -> Result<usize, Failed>
     ensures bound { IfOk result (λ n. n ≤ length buf.new) }
+    ensures bytes { IfOk result (λ n. Consumes (R.remaining file.old) (R.remaining file.new) (take n buf.new)) }
+    ensures end { IfOk result (λ n. n ≡ 0 → 0 < length buf.old → IsAtEnd (R.remaining file.new)) }
     ensures rest { IfOk result (λ n. drop n buf.new ≡ drop n buf.old) }
+    ensures kept { OnErr result (Keeps (R.remaining file.old) (R.remaining file.new)) }
 {
     let mut chunk = [0u8; CHUNK];
     let wanted = buf.len().min(CHUNK);
-    let count = read_once(file, &mut chunk[..wanted])?;
-    buf[..count].copy_from_slice(&chunk[..count]);
-    Ok(count)
+    match read_once(file, &mut chunk[..wanted]) {
+        Ok(count) => {
+            buf[..count].copy_from_slice(&chunk[..count]);
+            Ok(count)
+        }
+        Err(_) => Err(Failed),
+    }
 }
 
 impl<'a> Shelf for FileShelf<'a> {
@@ -72,6 +86,8 @@ impl<'a> Shelf for FileShelf<'a> {
     ghost admits = { λ _ _. true };
 
     ghost faults = { λ s. s.faults };
+
+    ghost leads = { λ _ _ _ _. ⊤ };
 
     fn start(&mut self, name: &Word) -> Result<(), Failed> {
         match File::open(self.rt, name.text()) {
@@ -94,10 +110,10 @@ impl<'a> Shelf for FileShelf<'a> {
         };
         match answer {
             Ok(count) => Ok(count),
-            Err(_) => {
+            Err(failed) => {
                 self.file = None;
                 self.faults = self.faults.saturating_add(1);
-                Err(Failed)
+                Err(failed)
             }
         }
     }

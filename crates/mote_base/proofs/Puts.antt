@@ -1,11 +1,11 @@
--- How puts one after the other go together.
+-- How calls one after the other go together.
 use Rattle.std.proofs.Common.{◌≡◌, ◌≤◌, ℕ, Bool, true, false, List, [], ◌∷◌, ◌++◌, Option, Some, Result, Ok, Err, refl, sym, ap, subst, inl, inr, ◌∙◌, append_assoc, append-nil}
 use Rattle.std.specs.Prelude.{OnOk, OnErr, IsErr, is_ok}
 use Rattle.mote_base.specs.Causes.{Rose, HasCause}
 use Rattle.mote_base.specs.Written.{Grows, GrowsByPart, Calls, joined, InPieces, Wrote, Broke, Puts}
 
--- The calls of one text, and then those of another.
-pub calls_append : {K : Type 0} (leads : K → List ℕ → Bool → K → Type 0) (old mid new : K) (ps qs : List (List ℕ)) (ok : Bool) → Calls leads old ps true mid → Calls leads mid qs ok new → Calls leads old (ps ++ qs) ok new
+-- Some calls, and then others.
+pub calls_append : {K A : Type 0} (leads : K → A → Bool → K → Type 0) (old mid new : K) (ps qs : List A) (ok : Bool) → Calls leads old ps true mid → Calls leads mid qs ok new → Calls leads old (ps ++ qs) ok new
 calls_append leads old mid new [] qs ok first next = subst (λ k. Calls leads k qs ok new) first.1 next
 calls_append {K = K} leads old mid new (p ∷ ps) qs ok first next =
     elim first [
@@ -13,11 +13,16 @@ calls_append {K = K} leads old mid new (p ∷ ps) qs ok first next =
       | inr put ↦ inr (put.0, put.1, calls_append leads put.0 mid new ps qs ok put.2 next)
     ]
 
--- A piece behind the failed put is not put.
-pub calls_stop : {K : Type 0} (leads : K → List ℕ → Bool → K → Type 0) (old new : K) (ps qs : List (List ℕ)) → Calls leads old ps false new → Calls leads old (ps ++ qs) false new
+-- A call behind the failed one is not made.
+pub calls_stop : {K A : Type 0} (leads : K → A → Bool → K → Type 0) (old new : K) (ps qs : List A) → Calls leads old ps false new → Calls leads old (ps ++ qs) false new
 calls_stop leads old new [] qs calls = absurd (cc (calls.0))
 calls_stop leads old new (p ∷ ps) qs calls =
     elim calls [ inl stop ↦ inl stop | inr put ↦ inr (put.0, put.1, calls_stop leads put.0 new ps qs put.2) ]
+
+-- One call.
+pub calls_one : {K A : Type 0} (leads : K → A → Bool → K → Type 0) (old new : K) (asked : A) (ok : Bool) → leads old asked ok new → Calls leads old (asked ∷ []) ok new
+calls_one leads old new asked true led = inr (new, led, (refl, refl))
+calls_one leads old new asked false led = inl (refl, led)
 
 pub joined-append : (ps qs : List (List ℕ)) → joined (ps ++ qs) ≡ joined ps ++ joined qs
 joined-append [] qs = refl

@@ -1,6 +1,6 @@
 -- The words that bytes make, by their number and by their places.
 use Rattle.std.proofs.Common.{◌≡◌, ℕ, zero, suc, ◌+◌, ◌*◌, ◌/◌, ◌<◌, List, [], ◌∷◌, length, get_or, refl, arith}
-use Rattle.mote_base.specs.Words.{words_of}
+use Rattle.mote_base.specs.Words.{words_of, AreWords}
 
 pub length-words_of : (bytes : List ℕ) → length (words_of bytes) ≡ length bytes / 2
 length-words_of [] = refl
@@ -16,3 +16,9 @@ get_or-words_of (low ∷ high ∷ rest) (suc i) below =
     let second : 2 * suc i + 1 ≡ suc (suc (2 * i + 1)) = omega arith in
     let less : i < length (words_of rest) = omega arith in
     rw (second, first) (get_or-words_of rest i less)
+
+-- two bytes make a word
+pub words_fit : (bytes : List ℕ) → ((i : ℕ) → get_or bytes i 0 < 256) → AreWords (words_of bytes)
+words_fit [] fits = tt
+words_fit (low ∷ []) fits = tt
+words_fit (low ∷ high ∷ rest) fits = (omega (arith, fits 0, fits 1), words_fit rest (λ i. fits (suc (suc i))))

@@ -1,3 +1,4 @@
+pub mod Asked
 pub mod Causes
 pub mod Counting
 pub mod Files
@@ -6,6 +7,7 @@ pub mod Lines
 pub mod Messages
 pub mod Shelves
 pub mod Sinks
+pub mod Statuses
 pub mod Table
 pub mod Timers
 pub mod Words

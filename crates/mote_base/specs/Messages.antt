@@ -1,5 +1,5 @@
 -- Messages that wait: two lists, each with its oldest message first.
-use Rattle.std.specs.Prelude.{ℕ, ◌≤◌, ◌==◌, ◌||◌, Bool, nat_lt, List, [], ◌∷◌, ◌++◌, length, drop, find, slice_get, Option, if◌then◌else◌}
+use Rattle.std.specs.Prelude.{ℕ, ◌≤◌, ◌==◌, ◌||◌, Bool, not, nat_lt, List, [], ◌∷◌, ◌++◌, length, drop, filter, find, slice_get, Option, if◌then◌else◌}
 use Rattle.std.specs.List.{list_any}
 use Rattle.mote_base.specs.declared.message.Msg.{Msg}
 
@@ -62,3 +62,11 @@ module _ {A : Type 0} where
 -- A message names an id: its sender or its receiver has it.
 abbrev pub names : {P : Type 0} → ℕ → Msg P → Bool
 names id m = m.from == id || m.to == id
+
+-- the messages that don't name an id, in their order
+abbrev pub without_named : {P : Type 0} → ℕ → List (Msg P) → List (Msg P)
+without_named id messages = filter (λ m. not (names id m)) messages
+
+-- the two lists without the messages that name it
+abbrev pub unnamed : {P : Type 0} → ℕ → Lists (Msg P) → Lists (Msg P)
+unnamed id lists = record { high = without_named id lists.high; low = without_named id lists.low }

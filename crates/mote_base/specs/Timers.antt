@@ -1,5 +1,6 @@
 -- The timers that are running, in the order in which they fire.
-use Rattle.std.specs.Prelude.{◌≡◌, ℕ, ◌+◌, ◌==◌, ◌&&◌, ◌||◌, ⊤, Bool, not, false, nat_le, nat_lt, List, [], ◌∷◌, length, filter, Option, Some, None, if◌then◌else◌}
+use Rattle.std.specs.Prelude.{◌≡◌, ℕ, ◌+◌, ◌<◌, ◌==◌, ◌&&◌, ◌||◌, ⊤, Bool, not, false, nat_le, nat_lt, List, [], ◌∷◌, length, filter, Option, Some, None, if◌then◌else◌}
+use Rattle.std.specs.List.{AllByRecursion}
 use Rattle.mote_base.specs.declared.timer.Timer.{Timer}
 
 -- how many may run at once
@@ -50,6 +51,10 @@ started t ts =
 abbrev pub firing : ℕ → List Timer → Option Timer
 firing now [] = None
 firing now (t ∷ ts) = if nat_le t.due now then Some t else None
+
+-- The moment of none of them has come.
+abbrev pub AreToCome : ℕ → List Timer → Type 0
+AreToCome now ts = AllByRecursion (λ (t : Timer). now < t.due) ts
 
 -- the timers after that: one that repeats starts anew, any other is gone
 abbrev pub after_firing : ℕ → List Timer → List Timer

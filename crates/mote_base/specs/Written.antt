@@ -15,13 +15,14 @@ abbrev pub GrowsByPart : Option (List ℕ) → Option (List ℕ) → List ℕ �
 GrowsByPart old new piece =
     (before : List ℕ) → old ≡ Some before → (part : List ℕ) × (new ≡ Some (before ++ part)) × IsStartOf part piece
 
--- The puts that were made from the old sink to the new one, where `leads s piece ok t` says that a put of the piece
--- led from s to t and was Ok or not. The pieces were put in this order, one put a piece. Where all were Ok the answer
--- is true. Else the last put is the first that failed, and the pieces behind it were not put.
-abbrev pub Calls : {K : Type 0} → (K → List ℕ → Bool → K → Type 0) → K → List (List ℕ) → Bool → K → Type 0
+-- The calls that were made from the old sink or shelf to the new one, where `leads s asked ok t` says that a call with
+-- `asked` (a piece to put; a file to start, or what a read gave) led from s to t and was Ok or not. The calls were made
+-- in this order, one call an item. Where all were Ok the answer is true. Else the last call is the first that failed,
+-- and those of the items behind it were not made.
+abbrev pub Calls : {K A : Type 0} → (K → A → Bool → K → Type 0) → K → List A → Bool → K → Type 0
 Calls leads old [] ok new = (ok ≡ true) × (new ≡ old)
-Calls {K = K} leads old (p ∷ ps) ok new =
-    ((ok ≡ false) × leads old p false new) ⊎ ((mid : K) × leads old p true mid × Calls leads mid ps ok new)
+Calls {K = K} leads old (a ∷ others) ok new =
+    ((ok ≡ false) × leads old a false new) ⊎ ((mid : K) × leads old a true mid × Calls leads mid others ok new)
 
 -- The pieces one after the other, as one text.
 abbrev pub joined : List (List ℕ) → List ℕ

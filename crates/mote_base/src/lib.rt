@@ -14,8 +14,6 @@ mod memory;
 mod message;
 mod outside;
 mod sure;
-#[cfg(test)]
-mod tests;
 mod timer;
 mod word;
 mod words;

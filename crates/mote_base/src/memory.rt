@@ -1,9 +1,10 @@
 //! A shelf and a sink in memory, which fail exactly where they are told to.
 ghost use Rattle.std.specs.Prelude.{◌≡◌, ◌≤◌, ◌||◌, [], length, drop, is_err, is_none, is_ok, is_some, IsTrue, IfOk, OnOk, OnErr, true, false, Some, None};
+ghost use Rattle.mote_base.specs.Asked.{Start, Read, came};
 ghost use Rattle.mote_base.specs.Causes.{HasCause};
 ghost use Rattle.mote_base.specs.Files.{held, Opens, Gives, Holds};
 ghost use Rattle.mote_base.specs.Counting.{lists, next_count};
-ghost use Rattle.mote_base.specs.Shelves.{fails_next, CountsCall};
+ghost use Rattle.mote_base.specs.Shelves.{fails_next, faults_after, AsksInMemory, CountsCall};
 ghost use Rattle.mote_base.specs.Sinks.{fails_put};
 ghost use Rattle.mote_base.specs.Table.{named};
 ghost use Rattle.mote_base.specs.Written.{Grows, GrowsByPart};
@@ -48,6 +49,8 @@ impl MemShelf {
 }
 
 impl Shelf for MemShelf {
+    ghost use Rattle.mote_base.specs.Shelves.{AsksInMemory};
+
     ghost files = { λ s. Some s.files };
 
     ghost place = { λ s. s.chosen };
@@ -58,14 +61,18 @@ impl Shelf for MemShelf {
 
     ghost faults = { λ s. s.faults };
 
+    ghost leads = { AsksInMemory };
+
     fn start(&mut self, name: &Word) -> Result<(), Failed>
         // It fails exactly where its call is listed and where it lacks the name.
         ensures fails { is_err result ≡ (fails_next self.old || is_none (held self.old.files name.now)) }
         ensures counts { CountsCall self.old self.new }
+        ensures faults { self.new.faults ≡ faults_after (is_ok result) self.old.faults }
 
         ensures opens { OnOk result (Opens (Some self.old.files) name.now self.new.chosen) }
         ensures held { OnOk result (Holds (Some self.old.files) name.now) }
         ensures chosen { is_some self.new.chosen ≡ is_ok result }
+        ensures leads { AsksInMemory self.old (Start name.now) (is_ok result) self.new }
 
         ensures files { self.new.files ≡ self.old.files }
         ensures names { ⟦<MemShelf as Shelf>⟧.admits self.new ≡ ⟦<MemShelf as Shelf>⟧.admits self.old }
@@ -89,11 +96,13 @@ impl Shelf for MemShelf {
         // It fails exactly where its call is listed.
         ensures fails { is_err result ≡ fails_next self.old }
         ensures counts { CountsCall self.old self.new }
+        ensures faults { self.new.faults ≡ faults_after (is_ok result) self.old.faults }
 
         ensures bound { IfOk result (λ n. n ≤ length buf.new) }
         ensures bytes { IfOk result (λ n. Gives self.old.chosen self.new.chosen n buf.new) }
         ensures rest { IfOk result (λ n. drop n buf.new ≡ drop n buf.old) }
         ensures chosen { is_some self.new.chosen ≡ is_ok result }
+        ensures leads { AsksInMemory self.old (Read (came result buf.new)) (is_ok result) self.new }
 
         ensures files { self.new.files ≡ self.old.files }
         ensures names { ⟦<MemShelf as Shelf>⟧.admits self.new ≡ ⟦<MemShelf as Shelf>⟧.admits self.old }

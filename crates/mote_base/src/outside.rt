@@ -1,5 +1,6 @@
 //! The outside: a shelf of files to read, and a sink to write to.
 ghost use Rattle.std.specs.Prelude.{◌≡◌, ◌≤◌, ℕ, List, Bool, Option, length, drop, is_ok, IsTrue, IfOk, OnOk, OnErr};
+ghost use Rattle.mote_base.specs.Asked.{Asked, Start, Read, came};
 ghost use Rattle.mote_base.specs.Causes.{HasCause};
 ghost use Rattle.mote_base.specs.Files.{Named, Place, Opens, Gives, Holds};
 ghost use Rattle.mote_base.specs.Written.{Grows, GrowsByPart};
@@ -25,6 +26,9 @@ pub trait Shelf {
     /// How often a call has failed.
     ghost faults: { Self → ℕ };
 
+    /// What a call may lead to, by whether it was Ok. Chains of it say which calls were made.
+    ghost leads: { Self → Asked → Bool → Self → Type 0 };
+
     /// Chooses the first file of that name, at its front. A name that isn't held is `Failed`.
     fn start(&mut self, name: &Word) -> Result<(), Failed>
         requires { IsTrue (admits self.old name.now) }
@@ -32,6 +36,7 @@ pub trait Shelf {
         ensures opens { OnOk result (Opens (files self.old) name.now (place self.new)) }
         ensures held { OnOk result (Holds (files self.old) name.now) }
         ensures chosen { is_chosen self.new ≡ is_ok result }
+        ensures leads { leads self.old (Start name.now) (is_ok result) self.new }
 
         // No call changes the files and the names, and a failure has its cause.
         ensures files { files self.new ≡ files self.old }
@@ -46,6 +51,7 @@ pub trait Shelf {
         ensures bytes { IfOk result (λ n. Gives (place self.old) (place self.new) n buf.new) }
         ensures rest { IfOk result (λ n. drop n buf.new ≡ drop n buf.old) }
         ensures chosen { is_chosen self.new ≡ is_ok result }
+        ensures leads { leads self.old (Read (came result buf.new)) (is_ok result) self.new }
 
         // No call changes the files and the names, and a failure has its cause.
         ensures files { files self.new ≡ files self.old }

@@ -37,6 +37,8 @@ impl SureShelf {
 }
 
 impl Shelf for SureShelf {
+    ghost use Rattle.mote_base.specs.Shelves.{AsksSurely};
+
     ghost files = { λ s. Some s.files };
 
     ghost place = { λ s. s.chosen };
@@ -46,6 +48,8 @@ impl Shelf for SureShelf {
     ghost admits = { λ s name. is_some (held s.files name) };
 
     ghost faults = { λ _. 0 };
+
+    ghost leads = { AsksSurely };
 
     fn start(&mut self, name: &Word) -> Result<(), Failed> {
         let _held = self.files.choose(name);

@@ -1,6 +1,6 @@
 //! Code as words.
 ghost use Rattle.std.specs.Prelude.{◌≡◌, ◌<◌, ◌%◌, length, IsNone, ◌↔◌, IfSome, slice_index};
-ghost use Rattle.mote_base.specs.Words.{words_of};
+ghost use Rattle.mote_base.specs.Words.{words_of, AreWords};
 
 use std::marker::Model;
 
@@ -12,13 +12,13 @@ pub struct Words<'a> {
 
 impl<'a> Model for Words<'a> {
     ghost use Rattle.std.specs.Prelude.{◌≡◌, ℕ, ◌%◌, List, length};
-    ghost use Rattle.mote_base.specs.Words.{words_of};
+    ghost use Rattle.mote_base.specs.Words.{words_of, AreWords};
 
     ghost Value = { List ℕ };
 
     ghost view = { λ w. words_of w.bytes.now };
 
-    ghost invariant = { λ w. length w.bytes.now % 2 ≡ 0 };
+    ghost invariant = { λ w. (length w.bytes.now % 2 ≡ 0) × AreWords (words_of w.bytes.now) };
 }
 
 impl<'a> Words<'a> {
@@ -33,7 +33,8 @@ impl<'a> Words<'a> {
     }
 
     pub fn len(&self) -> usize
-        ensures { result ≡ length self.now }
+        ensures len { result ≡ length self.now }
+        ensures words { AreWords self.now }
     {
         self.bytes.len() / 2
     }
@@ -41,7 +42,8 @@ impl<'a> Words<'a> {
     /// The word with that index, counted from 0.
     pub fn at(&self, i: usize) -> u16
         requires { i < length self.now }
-        ensures { result ≡ slice_index self.now i }
+        ensures word { result ≡ slice_index self.now i }
+        ensures words { AreWords self.now }
     {
         let bytes = self.bytes;
         u16::from_le_bytes([bytes[2 * i], bytes[2 * i + 1]])

@@ -1,6 +1,5 @@
 pub mod Least
 pub mod MoteLaws
-pub mod Named
 pub mod Prepared
 pub mod Retained
 pub mod Rooms

@@ -19,9 +19,9 @@ pub good_of : (c : Choice) (s t : State) → Good s → choice s ≡ c → t ≡
 good_of c s t good next is = subst Good (sym is) (good_made c s good (facts_of c s next))
 
 -- what it makes is a turn
-pub turn_of : (c : Choice) (s t : State) (lines : List TraceLine) → choice s ≡ c → t ≡ (made c s (act s.kernel s.runner)).state → lines ≡ (made c s (act s.kernel s.runner)).lines → Turn s t lines
-turn_of c s t lines next is tells =
+pub turn_of : (c : Choice) (s t : State) (lines : List TraceLine) → Good s → choice s ≡ c → t ≡ (made c s (act s.kernel s.runner)).state → lines ≡ (made c s (act s.kernel s.runner)).lines → Turn s t lines
+turn_of c s t lines good next is tells =
     let got = act s.kernel s.runner in
     let state : t ≡ (made (choice s) s got).state = is ∙ sym (ap (λ (x : Choice). (made x s got).state) next) in
     let told : lines ≡ (made (choice s) s got).lines = tells ∙ sym (ap (λ (x : Choice). (made x s got).lines) next) in
-    subst (λ (x : State). Turn s x lines) (sym state) (subst (λ (x : List TraceLine). Turn s (made (choice s) s got).state x) (sym told) (turn_made s))
+    subst (λ (x : State). Turn s x lines) (sym state) (subst (λ (x : List TraceLine). Turn s (made (choice s) s got).state x) (sym told) (turn_made s good))

@@ -2,6 +2,7 @@
 use Rattle.std.proofs.Common.{◌≡◌, ◌≢◌, ◌∙◌, refl, sym, ℕ, zero, suc, ◌+◌, ◌<◌, ◌≤◌, ◌==◌, inl, inr, List, [], ◌∷◌, ◌++◌, length, not, false, arith, nat_lt, length-append, Some}
 use Rattle.std.specs.List.{AllByRecursion}
 use Rattle.std.proofs.lemmas.Bool.{cases_Bool, eqb-true}
+use Rattle.mote_layout.specs.Memory.{block_count, domain_count}
 use Rattle.mote_layout.specs.Blocks.{AreBlocks, inserted, Fits}
 use Rattle.mote_layout.specs.Fit.{fit}
 use Rattle.mote_layout.specs.declared.segment.Segment.{Segment}
@@ -26,11 +27,11 @@ length-inserted s (t ∷ ts) =
 
 -- What a run that fits gives: it lies in the heap, the blocks with it are blocks, and there was room in the list.
 pub record HasRoom (ss : List Segment) (s : Segment) : Type 0 where
-  pub inside : s.first + s.count ≤ 384
+  pub inside : s.first + s.count ≤ block_count
   pub blocks : AreBlocks (inserted s ss)
-  pub room : length ss < 384
+  pub room : length ss < block_count
 
-pub room_for : (ss : List Segment) (s : Segment) → 1 ≤ s.count → s.owner < 7 → AreBlocks ss → fit ss s.count ≡ Some s.first → HasRoom ss s
+pub room_for : (ss : List Segment) (s : Segment) → 1 ≤ s.count → s.owner < domain_count → AreBlocks ss → fit ss s.count ≡ Some s.first → HasRoom ss s
 room_for ss s some owner are found =
     let fits : Fits ss s.first s.count = ((fit-some ss s.count s.first some).0 found).fits in
     let blocks = AreBlocks-inserted s ss some (omega (arith, owner)) fits are in
@@ -72,9 +73,9 @@ few (suc bound) rows d below =
     omega (arith, rest, one_out rows bound d)
 
 -- a free domain leaves room for its module
-pub room_for_module : (r : RunnerState) (rows : List Loaded) (row : Loaded) → AreDistinct rows → AllByRecursion (GoodModule r) rows → row.domain < 7 → in_use rows row.domain ≡ false → is_loaded rows row.face.id ≡ false → length rows < 7
+pub room_for_module : (r : RunnerState) (rows : List Loaded) (row : Loaded) → AreDistinct rows → AllByRecursion (GoodModule r) rows → row.domain < domain_count → in_use rows row.domain ≡ false → is_loaded rows row.face.id ≡ false → length rows < domain_count
 room_for_module r rows row d good below free new =
-    let more : length (rows ++ row ∷ []) ≤ 7 =
-    few 7 (rows ++ row ∷ []) (distinct_push rows row d (all_apart rows row new free))
-    (each_push (λ (m : Loaded). m.domain < 7) rows row (each_weaker (GoodModule r) (λ m. m.domain < 7) (λ m g. g.domain) rows good) below) in
+    let more : length (rows ++ row ∷ []) ≤ domain_count =
+    few domain_count (rows ++ row ∷ []) (distinct_push rows row d (all_apart rows row new free))
+    (each_push (λ (m : Loaded). m.domain < domain_count) rows row (each_weaker (GoodModule r) (λ m. m.domain < domain_count) (λ m g. g.domain) rows good) below) in
     omega (arith, more, length-append rows (row ∷ []))

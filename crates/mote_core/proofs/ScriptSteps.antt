@@ -1,9 +1,8 @@
 -- How the events of a script follow line by line.
-use Rattle.std.specs.Prelude.{ℕ, ◌≡◌, ◌<◌, ◌≤◌, ◌^◌, ◌++◌, nat_le, true, false, if◌then◌else◌, List, [], ◌∷◌, length, Option, Some, None}
+use Rattle.std.specs.Prelude.{ℕ, ◌≡◌, ◌<◌, ◌≤◌, ◌++◌, nat_le, true, false, if◌then◌else◌, List, [], ◌∷◌, length, Option, Some, None}
 use Rattle.mote_layout.specs.Limits.{event_limit}
 use Rattle.std.proofs.Common.{refl, ap, ◌∙◌, sym, arith, cond, append_assoc, append-nil}
 use Rattle.domain_model.specs.Script.{lines_in, words_in, event_of, is_blank, with_event, events_behind, events_from, few_events, events_in, events_of}
-use Rattle.domain_model.specs.Good.{AreTimes}
 use Rattle.domain_model.specs.declared.event.Event.{Event}
 use Rattle.mote_core.specs.ScriptCut.{Lacks, IsCut}
 use Rattle.mote_core.proofs.ScriptCuts.{with_front, lines_in-cut, lines_in-unended}
@@ -25,7 +24,6 @@ joined events (Some more) = Some (events ++ more)
 -- The events that were read and those of the rest make up the script's.
 pub record IsSoFar (text : List ℕ) (images : ℕ) (rest : List ℕ) (before : ℕ) (events : List Event) : Type 0 where
   pub same : joined events (events_left rest images before) ≡ events_left text images 0
-  pub times : AreTimes events
 
 events_of-left : (text : List ℕ) (images : ℕ) → events_of text images ≡ few_events (events_left text images 0)
 unfolding events_left
@@ -65,16 +63,12 @@ joined_push : (events : List Event) (e : Event) (o : Option (List Event)) → jo
 joined_push events e None = refl
 joined_push events e (Some more) = ap Some (append_assoc events (e ∷ []) more)
 
-times_push : (events : List Event) (e : Event) → AreTimes events → e.time < 2 ^ 32 → AreTimes (events ++ (e ∷ []))
-times_push [] e h p = (p, tt)
-times_push (x ∷ xs) e h p = (h.0, times_push xs e h.1 p)
-
 -- How reading goes on: from nothing, over a blank line, and over an event's line.
 pub so_far-start : (text : List ℕ) (images : ℕ) → IsSoFar text images text 0 []
-so_far-start text images = record { same = joined_nothing (events_left text images 0); times = tt }
+so_far-start text images = record { same = joined_nothing (events_left text images 0) }
 
 pub so_far-blank : (text rest line back : List ℕ) (images before : ℕ) (events : List Event) → IsSoFar text images rest before events → IsCut 10 rest line back → is_blank line ≡ true → IsSoFar text images back before events
-so_far-blank text rest line back images before events h cut blank = record { same = ap (joined events) (sym (left_blank rest line back images before cut blank)) ∙ h.same; times = h.times }
+so_far-blank text rest line back images before events h cut blank = record { same = ap (joined events) (sym (left_blank rest line back images before cut blank)) ∙ h.same }
 
 -- Whether an event comes before the one that was read before it.
 in_order : (e : Event) (before : ℕ) (rest : ℕ → Option (List Event)) → before ≤ e.time → events_behind (Some e) before rest ≡ with_event e (rest e.time)
@@ -83,10 +77,9 @@ in_order e before rest p = let test : nat_le before e.time ≡ true = grind arit
 out_of_order : (e : Event) (before : ℕ) (rest : ℕ → Option (List Event)) → e.time < before → events_behind (Some e) before rest ≡ None
 out_of_order e before rest p = let test : nat_le before e.time ≡ false = grind arith in ap (λ b. cond b (with_event e (rest e.time)) None) test
 
-pub so_far-event : (text rest line back : List ℕ) (images before : ℕ) (events : List Event) (e : Event) → IsSoFar text images rest before events → IsCut 10 rest line back → is_blank line ≡ false → event_of (words_in line) images ≡ Some e → before ≤ e.time → e.time < 2 ^ 32 → IsSoFar text images back e.time (events ++ (e ∷ []))
-so_far-event text rest line back images before events e h cut full is p q = record {
+pub so_far-event : (text rest line back : List ℕ) (images before : ℕ) (events : List Event) (e : Event) → IsSoFar text images rest before events → IsCut 10 rest line back → is_blank line ≡ false → event_of (words_in line) images ≡ Some e → before ≤ e.time → IsSoFar text images back e.time (events ++ (e ∷ []))
+so_far-event text rest line back images before events e h cut full is p = record {
   same = joined_push events e (events_left back images e.time) ∙ ap (joined events) (sym (left_event rest line back images before (Some e) cut full is ∙ in_order e before (λ now. events_left back images now) p)) ∙ h.same;
-  times = times_push events e h.times q;
 }
 
 -- The three lines at which a script has no events: one without its end, one that isn't an event, and one from before.

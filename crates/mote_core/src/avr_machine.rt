@@ -1,9 +1,10 @@
 //! The processor: registers, status, stack pointer and memory.
 ghost use Rattle.std.specs.Prelude.{◌≡◌, ◌<◌, ◌≤◌, ◌+◌, ◌-◌, ◌++◌, drop, length, IfOk};
+ghost use Rattle.mote_layout.specs.Memory.{message_frame_bytes, ram_bytes, ram_end, ram_start, register_count};
 ghost use Rattle.domain_model.specs.State.{no_bytes, no_processor, register, with_register, pair, with_pair, with_byte, with_zeros, dispatched, frame_of};
 
 use mote_base::{Msg, NoMemory};
-use mote_layout::{MESSAGE_FRAME, MESSAGE_FRAME_BYTES, RAM_BYTES, RAM_START, STACK_TOP};
+use mote_layout::{MESSAGE_FRAME, MESSAGE_FRAME_BYTES, RAM_BYTES, RAM_START, REGISTERS, STACK_TOP};
 use std::alloc::Global;
 use std::marker::Model;
 
@@ -13,10 +14,14 @@ const FRAME_PAIR: u8 = 22;
 /// The lower register of the pair that holds the state address at a dispatch, and a kernel call's answer.
 const ANSWER_PAIR: u8 = 24;
 
-/// Registers, SREG, SP and the bytes 0x0100 to 0x10FF.
+const REGISTER_COUNT: usize = REGISTERS as usize;
+
+const FRAME_BYTES: usize = MESSAGE_FRAME_BYTES as usize;
+
+/// Registers, SREG, SP and the bytes of the internal SRAM.
 #[derive(Drop)]
 pub struct Cpu {
-    registers: [u8; 32],
+    registers: [u8; REGISTER_COUNT],
     sreg: u8,
     sp: u16,
     memory: Vec<u8>,
@@ -40,7 +45,7 @@ impl Cpu {
         ensures { IfOk result (λ c. c ≡ no_processor) }
     {
         Ok(Cpu {
-            registers: [0; 32],
+            registers: [0; REGISTER_COUNT],
             sreg: 0,
             sp: 0,
             memory: zeros(alloc)?,
@@ -54,7 +59,7 @@ impl Cpu {
     }
 
     pub fn register(&self, d: u8) -> u8
-        requires { d < 32 }
+        requires { d < register_count }
         ensures { result ≡ register self.now d }
     {
         self.registers[usize::from(d)]
@@ -62,7 +67,7 @@ impl Cpu {
 
     /// The word in the pair with that lower register, low byte first.
     pub fn pair(&self, d: u8) -> u16
-        requires { d < 31 }
+        requires { d + 1 < register_count }
         ensures { result ≡ pair self.now d }
     {
         let low = u16::from(self.register(d));
@@ -71,14 +76,14 @@ impl Cpu {
     }
 
     pub fn set_register(&mut self, d: u8, value: u8)
-        requires { d < 32 }
+        requires { d < register_count }
         ensures { self.new ≡ with_register self.old d value }
     {
         self.registers[usize::from(d)] = value;
     }
 
     pub fn set_pair(&mut self, d: u8, word: u16)
-        requires { d < 31 }
+        requires { d + 1 < register_count }
         ensures { self.new ≡ with_pair self.old d word }
     {
         self.set_register(d, (word % 256) as u8);
@@ -87,15 +92,15 @@ impl Cpu {
 
     /// Puts a kernel call's answer into R25:R24.
     pub fn answer(&mut self, word: u16)
-        ensures { self.new ≡ with_pair self.old 24 word }
+        ensures { self.new ≡ with_pair self.old ANSWER_PAIR word }
     {
         self.set_pair(ANSWER_PAIR, word);
     }
 
     /// Writes a byte of the memory.
     pub fn store(&mut self, address: u16, value: u8)
-        requires low { 256 ≤ address }
-        requires high { address < 4352 }
+        requires low { ram_start ≤ address }
+        requires high { address ≤ ram_end }
         ensures { self.new ≡ with_byte self.old address value }
     {
         self.memory[usize::from(address - RAM_START)] = value;
@@ -103,9 +108,9 @@ impl Cpu {
 
     /// Clears bytes of the memory.
     pub fn clear(&mut self, address: u16, count: u16)
-        requires low { 256 ≤ address }
-        requires high { address + count ≤ 4352 }
-        ensures { self.new ≡ record self.old { memory = with_zeros self.old.memory (address - 256) count } }
+        requires low { ram_start ≤ address }
+        requires high { address + count ≤ ram_end + 1 }
+        ensures { self.new ≡ record self.old { memory = with_zeros self.old.memory (address - ram_start) count } }
     {
         let first = usize::from(address - RAM_START);
         clear_range(&mut self.memory, first, usize::from(count));
@@ -115,7 +120,7 @@ impl Cpu {
     pub fn dispatch(&mut self, state: u16, message: &Msg<()>)
         ensures { self.new ≡ dispatched self.old state message.now }
     {
-        self.registers = [0; 32];
+        self.registers = [0; REGISTER_COUNT];
         self.sreg = 0;
         self.sp = STACK_TOP;
         write_frame(&mut self.memory, message);
@@ -126,7 +131,7 @@ impl Cpu {
 
 fn zeros(alloc: Global) -> Result<Vec<u8>, NoMemory>
     ensures items { IfOk result (λ v. v.items ≡ no_bytes) }
-    ensures len { IfOk result (λ v. length v.items ≡ 4096) }
+    ensures len { IfOk result (λ v. length v.items ≡ ram_bytes) }
 {
     Ok(vec![in alloc; 0; RAM_BYTES]?)
 }
@@ -140,7 +145,7 @@ fn clear_range(memory: &mut [u8], first: usize, count: usize)
 }
 
 // The frame's bytes for a message.
-fn frame_bytes(message: &Msg<()>) -> [u8; 16]
+fn frame_bytes(message: &Msg<()>) -> [u8; FRAME_BYTES]
     ensures { result ≡ frame_of message.now }
 {
     let low = (message.word % 256) as u8;
@@ -167,9 +172,9 @@ fn frame_bytes(message: &Msg<()>) -> [u8; 16]
 
 // Puts the frame's bytes at the front of the memory.
 fn write_frame(memory: &mut [u8], message: &Msg<()>)
-    requires { length memory.old ≡ 4096 }
-    ensures { memory.new ≡ frame_of message.now ++ drop 16 memory.old }
+    requires { length memory.old ≡ ram_bytes }
+    ensures { memory.new ≡ frame_of message.now ++ drop message_frame_bytes memory.old }
 {
     let frame = frame_bytes(message);
-    memory[..usize::from(MESSAGE_FRAME_BYTES)].copy_from_slice(&frame);
+    memory[..FRAME_BYTES].copy_from_slice(&frame);
 }

@@ -5,8 +5,6 @@
 
 mod line;
 mod number;
-#[cfg(test)]
-mod tests;
 
 ghost use Rattle.std.specs.Prelude.{◌≡◌, ◌<◌, IfOk, IfSome, drop, length, slice_get};
 ghost use Rattle.domain_model.specs.Script.{events_of};

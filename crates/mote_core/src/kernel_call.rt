@@ -1,11 +1,11 @@
 //! The kernel: the clock, the processor, the owned blocks, the loaded modules, and what runs.
 ghost use Rattle.std.specs.Prelude.{◌≡◌, ◌<◌, ◌≤◌, ◌+◌, ◌*◌, ◌==◌, ◌++◌, ◌∷◌, [], length, IfOk, MatchOption, IfSome, IfNone, Some, None, is_some};
 ghost use Rattle.mote_layout.specs.Blocks.{AreBlocks};
-ghost use Rattle.mote_layout.specs.Memory.{domain_count};
+ghost use Rattle.mote_layout.specs.Memory.{domain_count, ram_end, ram_start, register_count};
 ghost use Rattle.domain_model.specs.State.{no_kernel, with_processor, with_register, with_byte};
 ghost use Rattle.domain_model.specs.Act.{id_at, is_loaded, may_store, answered, message_of, post_short};
-ghost use Rattle.domain_model.specs.Turn.{module_named, free_domain, given, begun, ended, handler_ended, purged, unnamed, at_clock};
-ghost use Rattle.mote_base.specs.Messages.{front, without_front};
+ghost use Rattle.domain_model.specs.Turn.{module_named, free_domain, given, begun, with_none_ending, handler_ended, purged, at_clock};
+ghost use Rattle.mote_base.specs.Messages.{front, without_front, unnamed};
 ghost use Rattle.mote_core.specs.Kernel.{given_as, with_memory_and_blocks};
 
 use crate::avr_machine::Cpu;
@@ -118,7 +118,8 @@ impl Kernel {
 
     /// The module with that id.
     pub fn module_named(&self, id: u8) -> Option<&Loaded>
-        ensures { MatchOption result (module_named self.now.modules id ≡ None) (λ m. module_named self.now.modules id ≡ Some m.now) }
+        ensures { MatchOption result (module_named self.now.modules id ≡ None)
+            (λ m. module_named self.now.modules id ≡ Some m.now) }
     {
         self.modules.named(id)
     }
@@ -191,7 +192,7 @@ impl Kernel {
     }
 
     pub fn set_register(&mut self, d: u8, value: u8)
-        requires { d < 32 }
+        requires { d < register_count }
         ensures { self.new ≡ with_processor self.old (with_register self.old.processor d value) }
     {
         self.cpu.set_register(d, value);
@@ -199,8 +200,8 @@ impl Kernel {
 
     /// Writes a byte of the memory.
     pub fn store(&mut self, address: u16, value: u8)
-        requires low { 256 ≤ address }
-        requires high { address < 4352 }
+        requires low { ram_start ≤ address }
+        requires high { address ≤ ram_end }
         ensures { self.new ≡ with_processor self.old (with_byte self.old.processor address value) }
     {
         self.cpu.store(address, value);
@@ -216,7 +217,7 @@ impl Kernel {
     /// Gives a domain a cleared block for so many bytes of state, and tells its address. A module that asks
     /// for no byte has none and the address 0.
     pub fn give_state(&mut self, domain: u8, size: u16) -> Option<u16>
-        requires { domain < 7 }
+        requires { domain < domain_count }
         ensures none { IfNone result (given self.old domain size ≡ None) }
         ensures same { IfNone result (self.new ≡ self.old) }
         ensures given { IfSome result (λ address. given self.old domain size ≡ Some (given_as self.new address)) }
@@ -262,8 +263,8 @@ impl Kernel {
     }
 
     /// No module ends any more.
-    pub fn close(&mut self)
-        ensures { self.new ≡ ended self.old }
+    pub fn clear_ending(&mut self)
+        ensures { self.new ≡ with_none_ending self.old }
     {
         self.ending = None;
     }

@@ -4,6 +4,7 @@ ghost use Rattle.mote_core.specs.Rows.{row_of};
 
 use arrayvec::ArrayVec;
 use module_image::Face;
+use mote_layout::PROVIDED;
 use std::marker::Model;
 
 /// What a turn has to know of a module that is loaded.
@@ -26,7 +27,7 @@ pub struct Loaded {
     pub state: u16,
     pub handler: u16,
     /// The units at which the functions that it provides begin.
-    pub entries: ArrayVec<u16, 16>,
+    pub entries: ArrayVec<u16, PROVIDED>,
 }
 
 impl Model for Loaded {

@@ -1,5 +1,6 @@
 //! Images, prepared for their load.
 ghost use Rattle.std.specs.Prelude.{◌≡◌, ◌≤◌, ◌+◌, IfOk, MatchOption, None, Some, is_some, length};
+ghost use Rattle.mote_layout.specs.Limits.{provided_limit};
 ghost use Rattle.unit_code.specs.Listing.{FitsTogether};
 ghost use Rattle.unit_code.specs.Proper.{IsProper};
 ghost use Rattle.module_image.specs.Contents.{FaceRules};
@@ -13,6 +14,7 @@ use avr_isa::Instr;
 use domain_model::Refusal;
 use module_image::{Face, ImageView, parse};
 use mote_base::NoMemory;
+use mote_layout::PROVIDED;
 use std::alloc::Global;
 use std::marker::Model;
 use unit_code::{CodeError, Unit, UnitList, units};
@@ -30,7 +32,7 @@ pub struct Loadable {
     face: Face,
     state_size: u16,
     handler: u16,
-    entries: ArrayVec<u16, 16>,
+    entries: ArrayVec<u16, PROVIDED>,
     units: Vec<Unit>,
 }
 
@@ -168,7 +170,7 @@ fn prepared_units(image: &ImageView<'_>, list: UnitList) -> Option<Result<Loadab
 // The module of an image with these units.
 fn module_of(image: &ImageView<'_>, list: UnitList) -> Loadable
     requires marks { length list.marks ≡ length image.now.face.provided.items + 1 }
-    requires provided { length image.now.face.provided.items ≤ 16 }
+    requires provided { length image.now.face.provided.items ≤ provided_limit }
     ensures { result ≡ module_of image.now list }
 {
     Loadable {
@@ -181,8 +183,8 @@ fn module_of(image: &ImageView<'_>, list: UnitList) -> Loadable
 }
 
 // The numbers of a module's entries.
-fn numbers(units: &[u16]) -> ArrayVec<u16, 16>
-    requires { length units.now ≤ 16 }
+fn numbers(units: &[u16]) -> ArrayVec<u16, PROVIDED>
+    requires { length units.now ≤ provided_limit }
     ensures { result.items ≡ units.now }
 {
     let mut numbers = ArrayVec::new();

@@ -43,7 +43,8 @@ impl Model for Mote {
 
     ghost view = { λ m. state_of m.kernel m.runner m.images.items m.script m.limits m.total m.spent m.ended };
 
-    ghost invariant = { λ m. Good (state_of m.kernel m.runner m.images.items m.script m.limits m.total m.spent m.ended) };
+    ghost invariant = { λ m. Good
+        (state_of m.kernel m.runner m.images.items m.script m.limits m.total m.spent m.ended) };
 }
 
 impl Mote {
@@ -169,8 +170,10 @@ impl Mote {
     fn come(&mut self, event: &Event, lines: &mut Lines)
         requires empty { lines.old ≡ [] }
         requires chosen { choice self.old ≡ Choice.Comes event.now }
-        ensures state { self.new ≡ (made (Choice.Comes event.now) self.old (act self.old.kernel self.old.runner)).state }
-        ensures lines { lines.new ≡ (made (Choice.Comes event.now) self.old (act self.old.kernel self.old.runner)).lines }
+        ensures state { self.new ≡
+            (made (Choice.Comes event.now) self.old (act self.old.kernel self.old.runner)).state }
+        ensures lines { lines.new ≡
+            (made (Choice.Comes event.now) self.old (act self.old.kernel self.old.runner)).lines }
     {
         self.script.pass();
         self.spent = 0;
@@ -227,8 +230,10 @@ impl Mote {
     fn watch(&mut self, run: &Running, lines: &mut Lines)
         requires empty { lines.old ≡ [] }
         requires chosen { choice self.old ≡ Choice.Watches run.now }
-        ensures state { self.new ≡ (made (Choice.Watches run.now) self.old (act self.old.kernel self.old.runner)).state }
-        ensures lines { lines.new ≡ (made (Choice.Watches run.now) self.old (act self.old.kernel self.old.runner)).lines }
+        ensures state { self.new ≡
+            (made (Choice.Watches run.now) self.old (act self.old.kernel self.old.runner)).state }
+        ensures lines { lines.new ≡
+            (made (Choice.Watches run.now) self.old (act self.old.kernel self.old.runner)).lines }
     {
         let note = FaultNote {
             rule: Rule::Watchdog,

@@ -1,5 +1,6 @@
 //! The owned blocks of the heap.
 ghost use Rattle.std.specs.Prelude.{◌≡◌, ◌<◌, ◌≤◌, ◌+◌, ◌*◌, ◌-◌, ◌||◌, [], length, nat_le, nat_lt, Some, None, IfSome, IfNone, insert};
+ghost use Rattle.mote_layout.specs.Memory.{block_bytes, block_count, domain_count, heap_start};
 ghost use Rattle.mote_layout.specs.Blocks.{covers, owns, inserted, without_owner, AreBlocks};
 ghost use Rattle.mote_layout.specs.Fit.{fit, fits};
 
@@ -7,10 +8,13 @@ use arrayvec::ArrayVec;
 use mote_layout::{BLOCK_BYTES, BLOCKS, HEAP_START, Segment};
 use std::marker::Model;
 
+/// How many segments there may be: each has a block.
+const SEGMENTS: usize = BLOCKS as usize;
+
 /// Segments by their first block. No two have a block in common, and all lie within the heap.
 #[derive(Drop)]
 pub struct Blocks {
-    segments: ArrayVec<Segment, 384>,
+    segments: ArrayVec<Segment, SEGMENTS>,
 }
 
 impl Model for Blocks {
@@ -48,12 +52,13 @@ impl Blocks {
     /// Gives a domain the lowest run of so many free blocks, and tells its first block.
     pub fn give(&mut self, domain: u8, count: u16) -> Option<u16>
         requires some { 1 ≤ count }
-        requires owner { domain < 7 }
+        requires owner { domain < domain_count }
         ensures none { IfNone result (fit self.old count ≡ None) }
         ensures same { IfNone result (self.new ≡ self.old) }
         ensures least { IfSome result (λ first. fit self.old count ≡ Some first) }
-        ensures inside { IfSome result (λ first. first + count ≤ 384) }
-        ensures given { IfSome result (λ first. self.new ≡ inserted (record { first = first; count = count; owner = domain }) self.old) }
+        ensures inside { IfSome result (λ first. first + count ≤ block_count) }
+        ensures given { IfSome result
+            (λ first. self.new ≡ inserted (record { first = first; count = count; owner = domain }) self.old) }
         ensures blocks { AreBlocks self.new }
     {
         let first = fit(self.segments.as_slice(), count)?;
@@ -78,8 +83,8 @@ impl Blocks {
 
 /// The first address of a block.
 pub fn block_address(block: u16) -> u16
-    requires { block ≤ 384 }
-    ensures { result ≡ 512 + 8 * block }
+    requires { block ≤ block_count }
+    ensures { result ≡ heap_start + block_bytes * block }
 {
     HEAP_START + BLOCK_BYTES * block
 }
@@ -96,7 +101,7 @@ fn covers(segment: &Segment, address: u16) -> bool
 
 // Whether a run of blocks lies in the heap and is free.
 fn fits(segments: &[Segment], first: u16, count: u16) -> bool
-    requires { first < 384 }
+    requires { first < block_count }
     ensures { result ≡ fits segments.now first count }
 {
     if u32::from(first) + u32::from(count) > u32::from(BLOCKS) {
@@ -112,7 +117,8 @@ fn fits(segments: &[Segment], first: u16, count: u16) -> bool
 
 // Whether a segment has none of the blocks of a run.
 fn misses(segment: &Segment, first: u16, count: u16) -> bool
-    ensures { result ≡ (nat_le (segment.now.first + segment.now.count) first || nat_le (first + count) segment.now.first) }
+    ensures { result ≡ (nat_le (segment.now.first + segment.now.count) first
+        || nat_le (first + count) segment.now.first) }
 {
     let start = u32::from(segment.first);
     let end = u32::from(first) + u32::from(count);

@@ -2,6 +2,8 @@
 ghost use Rattle.std.specs.Prelude.{◌≡◌, ◌<◌, ◌≤◌, ◌+◌, [], ◌∷◌, ◌++◌, length, Some, Ok, slice_get};
 ghost use Rattle.domain_model.specs.Turn.{came, load_prepared, unload_module, module_named, dispatch, close, begun, entered, init_to, kernel_message, faulted, settled};
 ghost use Rattle.mote_base.specs.Messages.{front};
+ghost use Rattle.mote_layout.specs.Limits.{turn_lines};
+ghost use Rattle.mote_layout.specs.Memory.{domain_count};
 ghost use Rattle.mote_core.specs.Rows.{AreInDomains};
 ghost use Rattle.domain_model.specs.Act.{act};
 ghost use Rattle.domain_model.specs.Prepared.{refusal_detail, refusal_kind, refusal_number, refusal_value};
@@ -116,7 +118,7 @@ pub fn dispatch(k: &mut Kernel, r: &mut PlainRunner, lines: &mut Lines)
 }
 
 fn refuse(number: u8, image: u8, k: &Kernel, lines: &mut Lines)
-    requires { length lines.old < 512 }
+    requires { length lines.old < turn_lines }
     ensures { lines.new ≡ lines.old ++ TraceLine.Refused k.now.clock image number 0 0 0 ∷ [] }
 {
     lines.add(TraceLine::Refused {
@@ -131,8 +133,9 @@ fn refuse(number: u8, image: u8, k: &Kernel, lines: &mut Lines)
 
 // Writes the line of a file that holds no module.
 fn refuse_file(refusal: &Refusal, image: u8, k: &Kernel, lines: &mut Lines)
-    requires { length lines.old < 512 }
-    ensures { lines.new ≡ lines.old ++ TraceLine.Refused k.now.clock image (refusal_number refusal.now) (refusal_kind refusal.now) (refusal_value refusal.now) (refusal_detail refusal.now) ∷ [] }
+    requires { length lines.old < turn_lines }
+    ensures { lines.new ≡ lines.old ++ TraceLine.Refused k.now.clock image (refusal_number refusal.now)
+        (refusal_kind refusal.now) (refusal_value refusal.now) (refusal_detail refusal.now) ∷ [] }
 {
     lines.add(TraceLine::Refused {
         time: k.clock(),
@@ -199,7 +202,8 @@ fn start(row: &ModuleRow, k: &mut Kernel, r: &mut PlainRunner, lines: &mut Lines
     requires empty { lines.old ≡ [] }
     ensures kernel { k.new ≡ begun k.old row.now.domain row.now.state (init_to row.now.id) }
     ensures runner { r.new ≡ entered r.old row.now.handler }
-    ensures lines { lines.new ≡ TraceLine.Load k.old.clock row.now.id row.now.domain row.now.state ∷ TraceLine.Run k.old.clock row.now.id 0 0 ∷ [] }
+    ensures lines { lines.new ≡ TraceLine.Load k.old.clock row.now.id row.now.domain row.now.state ∷
+        TraceLine.Run k.old.clock row.now.id 0 0 ∷ [] }
 {
     let time = k.clock();
     lines.add(TraceLine::Load {
@@ -220,9 +224,9 @@ fn start(row: &ModuleRow, k: &mut Kernel, r: &mut PlainRunner, lines: &mut Lines
 
 /// Stops the handler, and takes its module out.
 pub fn stop(note: FaultNote, run: &Running, k: &mut Kernel, r: &mut PlainRunner, lines: &mut Lines)
-    requires domain { run.now.domain < 7 }
+    requires domain { run.now.domain < domain_count }
     requires modules { AreInDomains k.old.modules }
-    requires room { length lines.old + 3 ≤ 512 }
+    requires room { length lines.old + 3 ≤ turn_lines }
     ensures kernel { k.new ≡ (faulted note run.now k.old r.old lines.old).kernel }
     ensures runner { r.new ≡ (faulted note run.now k.old r.old lines.old).runner }
     ensures lines { lines.new ≡ (faulted note run.now k.old r.old lines.old).lines }
@@ -240,13 +244,13 @@ pub fn stop(note: FaultNote, run: &Running, k: &mut Kernel, r: &mut PlainRunner,
     k.end_handler();
     k.purge(id, run.domain);
     r.empty(run.domain);
-    close(k, r, lines);
+    purge_ending(k, r, lines);
 }
 
 // Takes the module that ends out, where it is still loaded.
-fn close(k: &mut Kernel, r: &mut PlainRunner, lines: &mut Lines)
+fn purge_ending(k: &mut Kernel, r: &mut PlainRunner, lines: &mut Lines)
     requires modules { AreInDomains k.old.modules }
-    requires room { length lines.old < 512 }
+    requires room { length lines.old < turn_lines }
     ensures kernel { k.new ≡ (close k.old.ending k.old r.old lines.old).kernel }
     ensures runner { r.new ≡ (close k.old.ending k.old r.old lines.old).runner }
     ensures lines { lines.new ≡ (close k.old.ending k.old r.old lines.old).lines }
@@ -263,7 +267,7 @@ fn close(k: &mut Kernel, r: &mut PlainRunner, lines: &mut Lines)
         k.purge(row.id, row.domain);
         r.empty(row.domain);
     }
-    k.close();
+    k.clear_ending();
 }
 
 /// Does what the end of a unit asks for.
@@ -274,9 +278,9 @@ pub fn settle(
     r: &mut PlainRunner,
     lines: &mut Lines,
 )
-    requires domain { run.now.domain < 7 }
+    requires domain { run.now.domain < domain_count }
     requires modules { AreInDomains k.old.modules }
-    requires room { length lines.old + 3 ≤ 512 }
+    requires room { length lines.old + 3 ≤ turn_lines }
     ensures kernel { k.new ≡ (settled ending run.now k.old r.old lines.old).kernel }
     ensures runner { r.new ≡ (settled ending run.now k.old r.old lines.old).runner }
     ensures lines { lines.new ≡ (settled ending run.now k.old r.old lines.old).lines }
@@ -289,7 +293,7 @@ pub fn settle(
                 id: k.id_at(run.domain),
             });
             k.end_handler();
-            close(k, r, lines);
+            purge_ending(k, r, lines);
         }
         UnitEnd::Fault(note) => stop(note, run, k, r, lines),
     }

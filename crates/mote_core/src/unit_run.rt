@@ -1,5 +1,7 @@
 //! Runs the units of the loaded modules.
 ghost use Rattle.std.specs.Prelude.{◌≡◌, ◌<◌, ◌≤◌, ◌+◌, ◌++◌, [], ◌∷◌, length, IfOk, Some, slice_get};
+ghost use Rattle.mote_layout.specs.Limits.{turn_lines};
+ghost use Rattle.mote_layout.specs.Memory.{bank_words, domain_count};
 ghost use Rattle.domain_model.specs.State.{no_runner};
 ghost use Rattle.domain_model.specs.Act.{act, act_unit, next_unit, plain_effect, answered, id_at};
 ghost use Rattle.domain_model.specs.State.{with_processor, register};
@@ -11,13 +13,10 @@ use crate::kernel_call::Kernel;
 use avr_isa::Instr;
 use domain_model::{FaultNote, Lines, Rule, Running, TraceLine, UnitEnd};
 use mote_base::NoMemory;
-use mote_layout::DOMAINS;
+use mote_layout::{BANK_WORDS, DOMAINS, POINTER_X};
 use std::alloc::Global;
 use std::marker::Model;
 use unit_code::Unit;
-
-/// The lower register of X.
-const X: u8 = 26;
 
 /// The kernel calls that are built, by number.
 const POST_SHORT: u8 = 3;
@@ -30,7 +29,7 @@ const MY_ID: u8 = 11;
 const BYTE: u8 = 24;
 
 /// The most units of a bank: one a word.
-const BANK_UNITS: usize = 2048;
+const BANK_UNITS: usize = BANK_WORDS as usize;
 
 /// The units of one domain's module.
 #[derive(Drop)]
@@ -40,13 +39,14 @@ struct Bank {
 
 impl Model for Bank {
     ghost use Rattle.std.specs.Prelude.{◌≤◌, List, vec_capacity};
+    ghost use Rattle.mote_layout.specs.Memory.{bank_words};
     ghost use Rattle.unit_code.specs.declared.unit.Unit.{Unit};
 
     ghost Value = { List Unit };
 
     ghost view = { λ b. b.units.items };
 
-    ghost invariant = { λ b. 2048 ≤ vec_capacity b.units };
+    ghost invariant = { λ b. bank_words ≤ vec_capacity b.units };
 }
 
 impl Bank {
@@ -64,7 +64,7 @@ impl Bank {
     }
 
     fn fill(&mut self, units: &[Unit])
-        requires { length units.now ≤ 2048 }
+        requires { length units.now ≤ bank_words }
         ensures { self.new ≡ units.now }
     {
         self.units.clear();
@@ -81,13 +81,14 @@ pub struct PlainRunner {
 
 impl Model for PlainRunner {
     ghost use Rattle.std.specs.Prelude.{◌≡◌, length};
+    ghost use Rattle.mote_layout.specs.Memory.{domain_count};
     ghost use Rattle.domain_model.specs.State.{RunnerState};
 
     ghost Value = { RunnerState };
 
     ghost view = { λ r. record { banks = r.banks.items; unit = r.unit } };
 
-    ghost invariant = { λ r. length r.banks.items ≡ 7 };
+    ghost invariant = { λ r. length r.banks.items ≡ domain_count };
 }
 
 impl PlainRunner {
@@ -111,8 +112,8 @@ impl PlainRunner {
 
     /// Puts units into a domain.
     pub fn place(&mut self, domain: u8, units: &[Unit])
-        requires domain { domain < 7 }
-        requires fits { length units.now ≤ 2048 }
+        requires domain { domain < domain_count }
+        requires fits { length units.now ≤ bank_words }
         ensures { self.new ≡ placed self.old domain units.now }
     {
         let bank = &mut self.banks[usize::from(domain)];
@@ -121,7 +122,7 @@ impl PlainRunner {
 
     /// Takes the units of a domain out.
     pub fn empty(&mut self, domain: u8)
-        requires domain { domain < 7 }
+        requires domain { domain < domain_count }
         ensures { self.new ≡ emptied self.old domain }
     {
         self.place(domain, &[]);
@@ -144,7 +145,7 @@ impl PlainRunner {
     }
 
     fn go_on(&mut self) -> UnitEnd
-        requires { self.old.unit < 2048 }
+        requires { self.old.unit < bank_words }
         ensures next { self.new ≡ record self.old { unit = self.old.unit + 1 } }
         ensures on { result ≡ UnitEnd.On }
     {
@@ -154,14 +155,14 @@ impl PlainRunner {
 
     fn store(&mut self, instruction: &Instr, run: &Running, k: &mut Kernel) -> UnitEnd
         requires built { IsBuilt (Unit.Store instruction.now) }
-        requires unit { self.old.unit < 2048 }
+        requires unit { self.old.unit < bank_words }
         requires good { GoodMachine k.old self.old }
         requires running { k.old.running ≡ Some run.now }
         ensures kernel { k.new ≡ (act_unit (Unit.Store instruction.now) run.now k.old self.old).kernel }
         ensures runner { self.new ≡ (act_unit (Unit.Store instruction.now) run.now k.old self.old).runner }
         ensures ending { result ≡ (act_unit (Unit.Store instruction.now) run.now k.old self.old).ending }
     {
-        let address = k.cpu().pair(X);
+        let address = k.cpu().pair(POINTER_X);
         if !k.may_store(run, address) {
             return fault(Rule::Store, address);
         }
@@ -183,8 +184,8 @@ impl PlainRunner {
         lines: &mut Lines,
     ) -> UnitEnd
         requires built { IsBuilt (Unit.KernelCall number) }
-        requires unit { self.old.unit < 2048 }
-        requires room { length lines.old + 8 ≤ 512 }
+        requires unit { self.old.unit < bank_words }
+        requires room { length lines.old + 8 ≤ turn_lines }
         ensures kernel { k.new ≡ (act_unit (Unit.KernelCall number) run.now k.old self.old).kernel }
         ensures runner { self.new ≡ (act_unit (Unit.KernelCall number) run.now k.old self.old).runner }
         ensures lines { lines.new ≡ lines.old ++ (act_unit (Unit.KernelCall number) run.now k.old self.old).lines }
@@ -201,10 +202,10 @@ impl PlainRunner {
 
     fn run_one(&mut self, unit: &Unit, run: &Running, k: &mut Kernel, lines: &mut Lines) -> UnitEnd
         requires built { IsBuilt unit.now }
-        requires unit { self.old.unit < 2048 }
+        requires unit { self.old.unit < bank_words }
         requires good { GoodMachine k.old self.old }
         requires running { k.old.running ≡ Some run.now }
-        requires room { length lines.old + 8 ≤ 512 }
+        requires room { length lines.old + 8 ≤ turn_lines }
         ensures kernel { k.new ≡ (act_unit unit.now run.now k.old self.old).kernel }
         ensures runner { self.new ≡ (act_unit unit.now run.now k.old self.old).runner }
         ensures lines { lines.new ≡ lines.old ++ (act_unit unit.now run.now k.old self.old).lines }
@@ -233,7 +234,7 @@ impl PlainRunner {
     pub fn run_unit(&mut self, run: &Running, k: &mut Kernel, lines: &mut Lines) -> UnitEnd
         requires good { GoodMachine k.old self.old }
         requires running { k.old.running ≡ Some run.now }
-        requires room { length lines.old + 8 ≤ 512 }
+        requires room { length lines.old + 8 ≤ turn_lines }
         ensures kernel { k.new ≡ (act k.old self.old).kernel }
         ensures runner { self.new ≡ (act k.old self.old).runner }
         ensures lines { lines.new ≡ lines.old ++ (act k.old self.old).lines }
@@ -248,9 +249,10 @@ impl PlainRunner {
 
 // Writes the line of a byte that the module says.
 fn say(run: &Running, k: &mut Kernel, lines: &mut Lines)
-    requires { length lines.old + 8 ≤ 512 }
+    requires { length lines.old + 8 ≤ turn_lines }
     ensures kernel { k.new ≡ answered k.old 0 }
-    ensures lines { lines.new ≡ lines.old ++ TraceLine.Say k.old.clock (id_at k.old.modules run.now.domain) (register k.old.processor 24) ∷ [] }
+    ensures lines { lines.new ≡ lines.old ++ TraceLine.Say k.old.clock (id_at k.old.modules run.now.domain)
+        (register k.old.processor BYTE) ∷ [] }
 {
     let byte = k.cpu().register(BYTE);
     lines.add(TraceLine::Say {

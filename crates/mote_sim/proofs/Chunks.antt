@@ -1,5 +1,5 @@
 -- What was read of a file so far is its front.
-use Rattle.std.proofs.Common.{◌≡◌, ℕ, ◌+◌, ◌-◌, ◌≤◌, ◌<◌, ◌∙◌, sym, ap, List, ◌++◌, length, take, drop, arith, length-append, length-drop}
+use Rattle.std.proofs.Common.{◌≡◌, ℕ, ◌+◌, ◌-◌, ◌≤◌, ◌<◌, ◌∙◌, sym, ap, List, [], ◌++◌, length, take, drop, arith, length-append, length-drop}
 use Rattle.std.proofs.Math.Seq.{take-add}
 use Rattle.std.proofs.lemmas.List.{take_all, length-take-le}
 
@@ -20,3 +20,10 @@ all_read b bytes front ends = front ∙ take_all (length bytes) b ends
 -- the next bytes pass the limit
 pub longer : (b bytes : List ℕ) (limit n : ℕ) → length bytes ≤ limit → n ≤ length (drop (length bytes) b) → limit - length bytes < n → limit < length b
 longer b bytes limit n fits within more = omega (arith, fits, within, more, length-drop (length bytes) b)
+
+-- some bytes of a chunk are some, and none are none
+pub some_taken : (n : ℕ) (chunk : List ℕ) → 0 < n → n ≤ length chunk → 0 < length (take n chunk)
+some_taken n chunk some bound = omega (arith, some, bound, length-take-le n chunk bound)
+
+pub none_taken : (n : ℕ) (chunk : List ℕ) → n ≡ 0 → take n chunk ≡ []
+none_taken n chunk none = ap (λ (k : ℕ). take k chunk) none

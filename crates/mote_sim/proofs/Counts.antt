@@ -1,8 +1,9 @@
 -- How many files a command has.
-use Rattle.std.proofs.Common.{◌≡◌, ℕ, ◌≤◌, suc, refl, subst, arith, Bool, true, false, if◌then◌else◌, List, [], ◌∷◌, length, Option, Some, None}
+use Rattle.std.proofs.Common.{◌≡◌, ℕ, ◌+◌, ◌≤◌, suc, refl, subst, arith, Bool, true, false, if◌then◌else◌, List, [], ◌∷◌, length, Option, Some, None}
 use Rattle.std.specs.Prelude.{IsTrue, nat_le}
 use Rattle.std.specs.List.{list_any}
 use Rattle.std.proofs.lemmas.Bool.{leb-true, eqb-true}
+use Rattle.mote_layout.specs.Limits.{images_limit}
 use Rattle.domain_model.specs.declared.request.Kind.{Kind}
 use Rattle.domain_model.specs.declared.request.Kind.TheVariants.{Run, Listing}
 use Rattle.domain_model.specs.Command.{Command, takes, is_option, kind_of, with_files, command_of}
@@ -30,12 +31,13 @@ pub has_its_files : (words : List (List ℕ)) (c : Command) → command_of words
 has_its_files [] c e = absurd (cc)
 has_its_files (verb ∷ words) c e = by_option (list_any is_option words) (kind_of verb) words c e
 
--- The images of a run are 1 to 64.
+-- A run has an image, and no more than the limit.
 pub one_at_least : (n : ℕ) → IsTrue (takes Run (suc n)) → 1 ≤ n
-one_at_least n is = let low = leb-true 2 (suc n) (both_true (nat_le 2 (suc n)) (nat_le (suc n) 65) is).0 in omega (arith, low)
+one_at_least n is = let low = leb-true 2 (suc n) (both_true (nat_le 2 (suc n)) (nat_le (suc n) (1 + images_limit)) is).0 in omega (arith, low)
 
-pub most_64 : (n : ℕ) → IsTrue (takes Run (suc n)) → n ≤ 64
-most_64 n is = let high = leb-true (suc n) 65 (both_true (nat_le 2 (suc n)) (nat_le (suc n) 65) is).1 in omega (arith, high)
+pub most_images : (n : ℕ) → IsTrue (takes Run (suc n)) → n ≤ images_limit
+most_images n is =
+    let high = leb-true (suc n) (1 + images_limit) (both_true (nat_le 2 (suc n)) (nat_le (suc n) (1 + images_limit)) is).1 in omega (arith, high)
 
 -- A listing has no second image.
 pub one_alone : (n : ℕ) → IsTrue (takes Listing (suc (suc n))) → ⊥

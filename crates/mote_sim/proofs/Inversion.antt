@@ -6,6 +6,7 @@ use Rattle.mote_base.specs.Files.{Named, held}
 use Rattle.mote_base.specs.Written.{Grows}
 use Rattle.mote_base.specs.declared.fault.Status.{Status}
 use Rattle.mote_base.specs.declared.fault.Status.TheVariants.{Done, Usage, Refused}
+use Rattle.mote_layout.specs.Limits.{script_limit, image_limit}
 use Rattle.unit_code.specs.declared.error.CodeError.{CodeError}
 use Rattle.unit_code.specs.Units.{refusal, listed}
 use Rattle.module_image.specs.declared.error.ImageError.{ImageError}
@@ -23,16 +24,16 @@ use Rattle.mote_sim.specs.Listing.{listing_text}
 use Rattle.mote_sim.specs.Outcome.{Outcome, NoCommand, Unheld, TooLong, Unbuilt, Runs, BadImage, BadCode, Lists, outcome, outcome_of, outcome_by, outcome_with, outcome_of_code, outcome_of_contents, outcome_of_image, Answers, MayFind, AnswersOver, usage_line}
 use Rattle.mote_sim.specs.Reading.{Gathered, Whole, Longer, Missing, gathered_from, gathered_file, with_first}
 use Rattle.mote_sim.specs.Trace.{IsTraceOf, run_input, are_built, input_with, input_of}
-use Rattle.mote_sim.proofs.Counts.{HasItsFiles, one_at_least, most_64, one_alone}
+use Rattle.mote_sim.proofs.Counts.{HasItsFiles, one_at_least, most_images, one_alone}
 use Rattle.mote_sim.proofs.Images.{each_built}
 
 -- Where the shelf tells its files, what answers over the shelf answers for them.
-found_is : (files : Option (List Named)) (command : Option Command) (fs : List Named) (found : Outcome) → files ≡ Some fs → MayFind files command found → found ≡ outcome command fs
-found_is files None fs found told may = may
-found_is files (Some c) fs found told may = may.is ∙ ap (outcome_of c.kind) (sym (may.told fs told))
+found_is : (files : Option (List Named)) (came : Command → Gathered → Type 0) (command : Option Command) (fs : List Named) (found : Outcome) → files ≡ Some fs → MayFind files came command found → found ≡ outcome command fs
+found_is files came None fs found told may = may
+found_is files came (Some c) fs found told may = may.is ∙ ap (outcome_of c.kind) (sym (may.told fs told))
 
-pub over_told : (files : Option (List Named)) (command : Option Command) (fs : List Named) (s : Status) (text : List ℕ) → files ≡ Some fs → AnswersOver files command s text → Answers (outcome command fs) s text
-over_told files command fs s text told a = subst (λ found. Answers found s text) (found_is files command fs a.found told a.may) a.answer
+pub over_told : (files : Option (List Named)) (came : Command → Gathered → Type 0) (command : Option Command) (fs : List Named) (s : Status) (text : List ℕ) → files ≡ Some fs → AnswersOver files came command s text → Answers (outcome command fs) s text
+over_told files came command fs s text told a = subst (λ found. Answers found s text) (found_is files came command fs a.found told a.may) a.answer
 
 -- The first of files that are all whole is held, and within its limit.
 record First (limit : ℕ) (content : Option (List ℕ)) (others : Gathered) (files : List (List ℕ)) : Type 0 where
@@ -69,9 +70,9 @@ all_whole kind (Longer n) text a = let e : Done ≡ Refused = a.0 in absurd (cc)
 all_whole kind Missing text a = absurd a
 
 -- What files other than the first come to: they are images within their limit.
-image_limit : (number : ℕ) → 1 ≤ number → limit_of Run number ≡ limit_of Run 1
-image_limit zero low = absurd (omega (arith, low))
-image_limit (suc n) low = ap (λ t. if t then 1048576 else 65536) (eqb-suc-zero n)
+later_limit : (number : ℕ) → 1 ≤ number → limit_of Run number ≡ limit_of Run 1
+later_limit zero low = absurd (omega (arith, low))
+later_limit (suc n) low = ap (λ t. if t then script_limit else image_limit) (eqb-suc-zero n)
 
 images_whole : (number : ℕ) (fs : List Named) (names files : List (List ℕ)) → 1 ≤ number → gathered_from Run number fs names ≡ Whole files → AreImages fs names files
 images_whole number fs [] [] low e = tt
@@ -80,7 +81,7 @@ images_whole number fs (name ∷ names) files low e =
     let one = first_of number (limit_of Run number) (held fs name) (gathered_from Run (number + 1) fs names) files e in
     let others = images_whole (number + 1) fs names one.rest (omega (arith, low)) one.others_are in
     subst (AreImages fs (name ∷ names)) (sym one.files_are)
-    (one.held, subst (λ limit. length one.bytes ≤ limit) (image_limit number low) one.fits, others)
+    (one.held, subst (λ limit. length one.bytes ≤ limit) (later_limit number low) one.fits, others)
 
 -- An input that is run is built.
 record Built (images : List (List ℕ)) (events : Option (List Event)) (built : Bool) (text : List ℕ) : Type 0 where
@@ -109,7 +110,7 @@ writes_run fs (s ∷ names) text before new few a written =
       image_names = names;
       named = refl;
       least = one_at_least (length names) few;
-      most = most_64 (length names) few;
+      most = most_images (length names) few;
       script = one.bytes;
       script_held = one.held;
       script_fits = one.fits;
@@ -216,13 +217,13 @@ is_command kind (Whole files) e = by_is_command kind files e
 is_command kind (Longer n) e = cc
 is_command kind Missing e = cc
 
-no_command : (files : Option (List Named)) (command : Option Command) (found : Outcome) → found ≡ NoCommand → MayFind files command found → command ≡ None
-no_command files None found is may = refl
-no_command files (Some c) found is may = absurd (is_command c.kind may.bytes (sym may.is ∙ is))
+no_command : (files : Option (List Named)) (came : Command → Gathered → Type 0) (command : Option Command) (found : Outcome) → found ≡ NoCommand → MayFind files came command found → command ≡ None
+no_command files came None found is may = refl
+no_command files came (Some c) found is may = absurd (is_command c.kind may.bytes (sym may.is ∙ is))
 
-pub usage_answers : (files : Option (List Named)) (command : Option Command) (text : List ℕ) → AnswersOver files command Usage text → (command ≡ None) × (text ≡ usage_line)
-usage_answers files command text a =
-    let u = usage_outcome a.found text a.answer in (no_command files command a.found u.0 a.may, u.1)
+pub usage_answers : (files : Option (List Named)) (came : Command → Gathered → Type 0) (command : Option Command) (text : List ℕ) → AnswersOver files came command Usage text → (command ≡ None) × (text ≡ usage_line)
+usage_answers files came command text a =
+    let u = usage_outcome a.found text a.answer in (no_command files came command a.found u.0 a.may, u.1)
 
 -- Refused answers a refusal, with its line.
 pub refuses : (found : Outcome) (text : List ℕ) (old new : Option (List ℕ)) → Answers found Refused text → Grows old new text → Refuses found old new

@@ -7,4 +7,5 @@ pub mod Images
 pub mod Counts
 pub mod Inversion
 pub mod Prepared
-pub mod Admitted
+pub mod SomeBytes
+pub mod Calls

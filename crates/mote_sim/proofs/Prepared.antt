@@ -34,15 +34,21 @@ pub goes_on : {s : State} {i : Option Input} → Standing s i → s.ended ≡ Mo
 goes_on stands = ap (λ (t : State). t.ended) stands.starts
 
 -- A state agrees with itself.
-same_state : (free : ℕ → Bool) (s : State) → SameState free s s
-same_state free s = record { kernel = record { rest = refl; memory = record { same_length = refl; same = λ i is. refl } }; rest = refl }
+same_state : (free : ℕ → Bool) (s : State) → Good s → SameState free s s
+same_state free s good = record {
+  kernel = record {
+    rest = refl;
+    memory = record { same_length = refl; same = λ i is. refl; bytes = λ i is. good.machine.processor.memory_bytes i };
+  };
+  rest = refl;
+}
 
 -- A lawful run from where a run begins is a run of the input.
-lawful_run : (s : State) (i : Input) (lines : List TraceLine) → s ≡ start i → LawfulRunFrom s lines → IsLawfulRun i lines
-lawful_run s i lines starts run = record {
+lawful_run : (s : State) (i : Input) (lines : List TraceLine) → s ≡ start i → Good s → LawfulRunFrom s lines → IsLawfulRun i lines
+lawful_run s i lines starts good run = record {
   run = record {
     first = s;
-    begins = record { same = subst (λ t. SameState is_unstated (start i) t) (sym starts) (same_state is_unstated (start i)) };
+    begins = record { same = subst (λ t. SameState is_unstated (start i) t) (sym starts) (same_state is_unstated (start i) (subst Good starts good)) };
     turns = lawful_is_run run;
   };
   lawful = run;
@@ -51,7 +57,7 @@ lawful_run s i lines starts run = record {
 trace_answers : (s : State) (i : Option Input) (lines : List TraceLine) → Standing s i → LawfulRunFrom s lines → Answers (outcome_with i) Done (texts lines)
 trace_answers s i lines stands run =
     subst (λ o. Answers (outcome_with o) Done (texts lines)) (sym stands.is)
-    (refl, record { lines = lines; run = lawful_run s stands.input lines stands.starts run; spelled = refl })
+    (refl, record { lines = lines; run = lawful_run s stands.input lines stands.starts stands.good run; spelled = refl })
 
 pub played_answers : {K : Type 0} {w : K → Option (List ℕ)} {f : K → ℕ} {l : K → List ℕ → Bool → K → Type 0} {a b : K} {s : State} (i : Option Input) → Standing s i → Played w f l a b s → Answered w f l a b 0 0 (Answers (outcome_with i)) Done
 played_answers {s = s} i stands p = record { text = texts p.lines; answer = trace_answers s i p.lines stands p.run; wrote = p.wrote; calm = refl }

@@ -5,6 +5,7 @@ use Rattle.mote_base.specs.Files.{Named, held}
 use Rattle.mote_base.specs.Written.{Grows, IsStartOf}
 use Rattle.mote_base.specs.declared.fault.Status.{Status}
 use Rattle.mote_base.specs.declared.fault.Status.TheVariants as status
+use Rattle.mote_layout.specs.Limits.{images_limit}
 use Rattle.unit_code.specs.Units.{refusal, listed}
 use Rattle.module_image.specs.Contents.{Contents}
 use Rattle.module_image.specs.Reading.{image_of}
@@ -27,14 +28,14 @@ AreImages files (name ∷ names) [] = ⊥
 AreImages files (name ∷ names) (image ∷ images) =
     (held files name ≡ Some image) × (length image ≤ limit_of kinds.Run 1) × AreImages files names images
 
--- The files of `run` are a script and 1 to 64 images. Each was read whole and is within its limit, the script
+-- The files of `run` are a script and one image or more, up to their limit. Each was read whole and is within its limit, the script
 -- has events, each image is built, and the bytes that were added are the text of a lawful run of them.
 pub record WritesRun (names : List (List ℕ)) (files : List Named) (before : List ℕ) (new : Option (List ℕ)) : Type 0 where
   pub script_name : List ℕ
   pub image_names : List (List ℕ)
   pub named : names ≡ script_name ∷ image_names
   pub least : 1 ≤ length image_names
-  pub most : length image_names ≤ 64
+  pub most : length image_names ≤ images_limit
   pub script : List ℕ
   pub script_held : held files script_name ≡ Some script
   pub script_fits : length script ≤ limit_of kinds.Run 0

@@ -6,3 +6,5 @@ pub mod Outcome
 pub mod Ending
 pub mod Clauses
 pub mod Playing
+pub mod Pieces
+pub mod Asking

@@ -101,19 +101,20 @@ Answers (BadImage e) status text = (status ≡ Refused) × (text ≡ image_line 
 Answers (BadCode e) status text = (status ≡ Refused) × (text ≡ code_line e)
 Answers (Lists l) status text = (status ≡ Done) × (text ≡ listing_text l)
 
--- The files, read in the order of the words, come to this outcome. Where the shelf tells no files there are
--- some that do; where it tells them they are these.
-pub record Finds (files : Option (List Named)) (command : Command) (found : Outcome) : Type 0 where
+-- The files, read in the order of the words, come to this outcome. Their bytes are what came by the calls of the shelf;
+-- and where it tells its files they are those.
+pub record Finds (files : Option (List Named)) (came : Gathered → Type 0) (command : Command) (found : Outcome) : Type 0 where
   pub bytes : Gathered
+  pub read : came bytes
   pub is : found ≡ outcome_of command.kind bytes
   pub told : (fs : List Named) → files ≡ Some fs → gathered command fs ≡ bytes
 
-abbrev pub MayFind : Option (List Named) → Option Command → Outcome → Type 0
-MayFind files None found = found ≡ NoCommand
-MayFind files (Some command) found = Finds files command found
+abbrev pub MayFind : Option (List Named) → (Command → Gathered → Type 0) → Option Command → Outcome → Type 0
+MayFind files came None found = found ≡ NoCommand
+MayFind files came (Some command) found = Finds files (came command) command found
 
--- The status and the output answer these words over this shelf.
-pub record AnswersOver (files : Option (List Named)) (command : Option Command) (status : Status) (text : List ℕ) : Type 0 where
+-- The status and the output answer these words over this shelf, by what came of the files of each command.
+pub record AnswersOver (files : Option (List Named)) (came : Command → Gathered → Type 0) (command : Option Command) (status : Status) (text : List ℕ) : Type 0 where
   pub found : Outcome
-  pub may : MayFind files command found
+  pub may : MayFind files came command found
   pub answer : Answers found status text

@@ -1,15 +1,17 @@
 //! The top call.
-ghost use Rattle.std.specs.Prelude.{◌≡◌, ◌≤◌, ◌⊎◌, IfOk, IsTrue, length, Some, None, List, ℕ};
+ghost use Rattle.std.specs.Prelude.{◌≡◌, ◌≤◌, ◌⊎◌, IfOk, IsTrue, length, Some, None, true, false, List, ℕ};
 ghost use Rattle.mote_base.specs.Causes.{Rose};
 ghost use Rattle.mote_base.specs.Files.{Named};
 ghost use Rattle.mote_base.specs.Written.{Grows};
 ghost use Rattle.domain_model.specs.Command.{command_of, takes};
+ghost use Rattle.mote_sim.specs.Asking.{AsksBy, AsksFront, Came};
 ghost use Rattle.mote_sim.specs.Clauses.{WritesRun, WritesListing, Refuses, HasStatus, WritesFront};
 ghost use Rattle.mote_sim.specs.Ending.{Ends, IsAnswer, Answered, CutOff};
 ghost use Rattle.mote_sim.specs.Outcome.{Answers, AnswersOver, outcome, outcome_by, outcome_with, usage_line};
 ghost use Rattle.mote_sim.specs.Playing.{AreReady, StandsAt};
 ghost use Rattle.mote_sim.specs.Reading.{Admits, AdmitsEach, bytes_of};
 ghost use Rattle.mote_sim.specs.Trace.{input_of};
+ghost use Rattle.mote_sim.specs.Pieces.{LeadsBySome};
 
 use crate::listing::list;
 use crate::one_line::{put_answer, put_size};
@@ -59,7 +61,8 @@ fn prepare(alloc: Global, script: &[u8], images: &[Vec<u8>]) -> Result<Option<Mo
 
 // Runs a script over its images. All memory is taken before the first line is put.
 fn run<K: Sink>(alloc: Global, script: &[u8], images: &[Vec<u8>], out: &mut K) -> Status
-    ensures { Ends K.written K.faults K.leads out.old out.new 0 0 (Answers (outcome_with (input_of script.now (bytes_of images.now)))) result }
+    ensures { Ends K.written K.faults (LeadsBySome K.leads) out.old out.new 0 0
+        (Answers (outcome_with (input_of script.now (bytes_of images.now)))) result }
 {
     let mut mote = match prepare(alloc, script, images) {
         Err(_) => return Status::NoMemory,
@@ -79,7 +82,8 @@ fn run<K: Sink>(alloc: Global, script: &[u8], images: &[Vec<u8>], out: &mut K) -
 // Answers a command whose files have been read.
 fn perform<K: Sink>(alloc: Global, kind: Kind, files: &[Vec<u8>], out: &mut K) -> Status
     requires { IsTrue (takes kind (length files.now)) }
-    ensures { Ends K.written K.faults K.leads out.old out.new 0 0 (Answers (outcome_by kind (bytes_of files.now))) result }
+    ensures { Ends K.written K.faults (LeadsBySome K.leads) out.old out.new 0 0
+        (Answers (outcome_by kind (bytes_of files.now))) result }
 {
     match kind {
         Kind::Run => match files {
@@ -103,8 +107,11 @@ fn answer_command<F: Shelf, K: Sink>(
 ) -> Status
     requires names { AdmitsEach (F.admits shelf.old) names.now }
     requires operands { IsTrue (takes kind (length names.now)) }
-    ensures { Ends K.written K.faults K.leads out.old out.new (F.faults shelf.old) (F.faults shelf.new)
-        (AnswersOver (F.files shelf.old) (Some (record { kind = kind; files = names.now }))) result }
+    ensures ends { Ends K.written K.faults (LeadsBySome K.leads) out.old out.new
+        (F.faults shelf.old) (F.faults shelf.new)
+        (AnswersOver (F.files shelf.old) (Came F.leads shelf.old shelf.new)
+        (Some (record { kind = kind; files = names.now }))) result }
+    ensures asks { AsksBy F.leads shelf.old shelf.new (Some (record { kind = kind; files = names.now })) result }
 {
     match read_files(alloc, shelf, kind, names) {
         Ok(files) => perform(alloc, kind, &files, out),
@@ -117,9 +124,12 @@ fn answer_command<F: Shelf, K: Sink>(
 // The whole of the top call, by its ending.
 fn answer<F: Shelf, K: Sink>(alloc: Global, words: &[Word], shelf: &mut F, out: &mut K) -> Status
     requires { Admits (F.admits shelf.old) (command_of words.now) }
-    ensures ends { Ends K.written K.faults K.leads out.old out.new (F.faults shelf.old) (F.faults shelf.new)
-        (AnswersOver (F.files shelf.old) (command_of words.now)) result }
+    ensures ends { Ends K.written K.faults (LeadsBySome K.leads) out.old out.new
+        (F.faults shelf.old) (F.faults shelf.new)
+        (AnswersOver (F.files shelf.old) (Came F.leads shelf.old shelf.new) (command_of words.now)) result }
     ensures no_command { command_of words.now ≡ None → (result ≡ Status.Usage) ⊎ (result ≡ Status.WriteFault) }
+    ensures asks { AsksBy F.leads shelf.old shelf.new (command_of words.now) result }
+    ensures no_calls { command_of words.now ≡ None → shelf.new ≡ shelf.old }
 {
     match request_of(words) {
         Request::Usage => put_answer(out, b"mote: usage\n", Status::Usage),
@@ -153,7 +163,8 @@ pub fn mote_main<F: Shelf, K: Sink>(
         WritesListing names fs before (K.written out.new) }
 
     // Usage: the words are no command. No command has another answer, but where the put of its line fails.
-    ensures usage { result ≡ Status.Usage → (command_of words.now ≡ None) × Grows (K.written out.old) (K.written out.new) usage_line }
+    ensures usage { result ≡ Status.Usage → (command_of words.now ≡ None)
+        × Grows (K.written out.old) (K.written out.new) usage_line }
     ensures no_command { command_of words.now ≡ None → (result ≡ Status.Usage) ⊎ (result ≡ Status.WriteFault) }
 
     // Refused: a file is longer than its limit, the script or an image is not built, or `list` finds no image or
@@ -166,24 +177,38 @@ pub fn mote_main<F: Shelf, K: Sink>(
         ¬ Rose (F.faults shelf.old) (F.faults shelf.new) → ¬ Rose (K.faults out.old) (K.faults out.new) →
         HasStatus (outcome (command_of words.now) fs) result ⊎ (result ≡ Status.NoMemory) }
 
-    // Done, Usage and Refused wrote a whole output, and no call failed; also where the shelf tells no files.
-    ensures answered { IsAnswer result → Answered K.written K.faults K.leads out.old out.new (F.faults shelf.old) (F.faults shelf.new)
-        (AnswersOver (F.files shelf.old) (command_of words.now)) result }
+    // Done, Usage and Refused wrote a whole output, and no call failed; also where the shelf tells no files. They
+    // answer what came by the calls of the shelf, which read each file of the command to its end, or up to the first
+    // that passed its limit.
+    ensures answered { IsAnswer result → Answered K.written K.faults (LeadsBySome K.leads) out.old out.new
+        (F.faults shelf.old) (F.faults shelf.new)
+        (AnswersOver (F.files shelf.old) (Came F.leads shelf.old shelf.new) (command_of words.now)) result }
     ensures calm { IsAnswer result → (F.faults shelf.new ≡ F.faults shelf.old) × (K.faults out.new ≡ K.faults out.old) }
 
-    // A fault of reading has its cause, and nothing was put.
-    ensures read_fault { result ≡ Status.ReadFault → Rose (F.faults shelf.old) (F.faults shelf.new) × (out.new ≡ out.old) }
+    // A fault of reading has its cause, and nothing was put. The last call of the shelf is the one that failed, and no
+    // call was made that the words don't ask for.
+    ensures read_fault { result ≡ Status.ReadFault → Rose (F.faults shelf.old) (F.faults shelf.new)
+        × (out.new ≡ out.old) }
+    ensures failed_call { result ≡ Status.ReadFault →
+        AsksFront F.leads shelf.old shelf.new (command_of words.now) false }
+
+    // Words that are no command ask for no call.
+    ensures no_calls { command_of words.now ≡ None → shelf.new ≡ shelf.old }
 
     // A fault of writing has its cause, a front of an output that answers was written, and no put follows.
-    ensures write_fault { result ≡ Status.WriteFault → Rose (K.faults out.old) (K.faults out.new) × (F.faults shelf.new ≡ F.faults shelf.old) }
+    ensures write_fault { result ≡ Status.WriteFault → Rose (K.faults out.old) (K.faults out.new)
+        × (F.faults shelf.new ≡ F.faults shelf.old) }
     ensures front { result ≡ Status.WriteFault → (fs : List Named) (before : List ℕ) →
         F.files shelf.old ≡ Some fs → K.written out.old ≡ Some before →
         WritesFront (outcome (command_of words.now) fs) before (K.written out.new) }
-    ensures cut { result ≡ Status.WriteFault → CutOff K.written K.faults K.leads out.old out.new (F.faults shelf.old) (F.faults shelf.new)
-        (AnswersOver (F.files shelf.old) (command_of words.now)) }
+    ensures cut { result ≡ Status.WriteFault → CutOff K.written K.faults (LeadsBySome K.leads) out.old out.new
+        (F.faults shelf.old) (F.faults shelf.new)
+        (AnswersOver (F.files shelf.old) (Came F.leads shelf.old shelf.new) (command_of words.now)) }
 
-    // Where memory ran out nothing was put.
+    // Where memory ran out nothing was put, and no call of the shelf failed.
     ensures no_memory { result ≡ Status.NoMemory → out.new ≡ out.old }
+    ensures no_failed_call { result ≡ Status.NoMemory →
+        AsksFront F.leads shelf.old shelf.new (command_of words.now) true }
 
     // No count of faults falls.
     ensures later { (F.faults shelf.old ≤ F.faults shelf.new) × (K.faults out.old ≤ K.faults out.new) }

@@ -17,8 +17,6 @@ mod one_line;
 mod play;
 mod reading;
 mod request;
-#[cfg(test)]
-mod tests;
 mod trace_text;
 
 pub use answer::mote_main;

@@ -7,6 +7,7 @@ ghost use Rattle.unit_code.specs.Proper.{IsOfKind, IsProper};
 ghost use Rattle.mote_sim.specs.Ending.{Ends};
 ghost use Rattle.mote_sim.specs.Listing.{listing_from};
 ghost use Rattle.mote_sim.specs.Outcome.{Answers, outcome_of_contents, outcome_of_image};
+ghost use Rattle.mote_sim.specs.Pieces.{LeadsBySome};
 
 use crate::one_line::{put_answer, put_code, put_image};
 use arrayvec::ArrayVec;
@@ -19,7 +20,8 @@ use unit_code::{CodeError, Unit, units};
 // Puts the line of a unit by one put.
 fn put_unit<K: Sink>(out: &mut K, number: u16, place: u16, unit: &Unit) -> Result<(), Failed>
     requires { IsOfKind unit.now }
-    ensures { Puts K.written K.faults K.leads out.old out.new (listing_line number place unit.now) result }
+    ensures { Puts K.written K.faults (LeadsBySome K.leads) out.old out.new
+        (listing_line number place unit.now) result }
 {
     let mut line: Line = ArrayVec::new();
     list_line(number, place, unit, &mut line);
@@ -30,7 +32,8 @@ fn put_unit<K: Sink>(out: &mut K, number: u16, place: u16, unit: &Unit) -> Resul
 fn put_units<K: Sink>(out: &mut K, units: &[Unit], places: &[u16]) -> Result<(), Failed>
     requires proper { IsProper units.now }
     requires placed { length places.now ≡ length units.now }
-    ensures { Puts K.written K.faults K.leads out.old out.new (listing_from 0 units.now places.now) result }
+    ensures { Puts K.written K.faults (LeadsBySome K.leads) out.old out.new
+        (listing_from 0 units.now places.now) result }
 {
     for (number, unit) in units.iter().enumerate() {
         put_unit(out, number as u16, places[number], unit)?;
@@ -41,7 +44,8 @@ fn put_units<K: Sink>(out: &mut K, units: &[Unit], places: &[u16]) -> Result<(),
 // Lists an image that was read. All memory is taken before the first line is put.
 fn list_contents<K: Sink>(alloc: Global, image: &ImageView<'_>, out: &mut K) -> Status
     requires { length image.now.code ≤ 65535 }
-    ensures { Ends K.written K.faults K.leads out.old out.new 0 0 (Answers (outcome_of_contents image.now.rewritten image.now)) result }
+    ensures { Ends K.written K.faults (LeadsBySome K.leads) out.old out.new 0 0
+        (Answers (outcome_of_contents image.now.rewritten image.now)) result }
 {
     if image.rewritten() {
         return put_answer(out, b"refused unbuilt\n", Status::Refused);
@@ -61,7 +65,8 @@ fn list_contents<K: Sink>(alloc: Global, image: &ImageView<'_>, out: &mut K) -> 
 
 /// Lists the units of the image that the file holds.
 pub fn list<K: Sink>(alloc: Global, file: &[u8], out: &mut K) -> Status
-    ensures { Ends K.written K.faults K.leads out.old out.new 0 0 (Answers (outcome_of_image (image_of file.now))) result }
+    ensures { Ends K.written K.faults (LeadsBySome K.leads) out.old out.new 0 0
+        (Answers (outcome_of_image (image_of file.now))) result }
 {
     match parse(file) {
         Ok(image) => list_contents(alloc, &image, out),

@@ -1,7 +1,8 @@
 //! Answers that are one line.
-ghost use Rattle.std.specs.Prelude.{◌≡◌, ◌⊎◌};
+ghost use Rattle.std.specs.Prelude.{◌≡◌, ◌⊎◌, ◌<◌, length};
 ghost use Rattle.mote_sim.specs.Ending.{Ends, IsAnswer};
 ghost use Rattle.mote_sim.specs.Outcome.{Answers, BadCode, BadImage, TooLong};
+ghost use Rattle.mote_sim.specs.Pieces.{LeadsBySome};
 
 use crate::trace_text::{add_field, add_text};
 use arrayvec::ArrayVec;
@@ -9,10 +10,12 @@ use module_image::ImageError;
 use mote_base::{Line, Sink, Status};
 use unit_code::CodeError;
 
-/// Puts a line that is the whole output.
+/// Puts a line that is the whole output, and that is not empty.
 pub fn put_answer<K: Sink>(out: &mut K, line: &[u8], status: Status) -> Status
-    requires { IsAnswer status }
-    ensures ends { Ends K.written K.faults K.leads out.old out.new 0 0 (λ s text. (s ≡ status) × (text ≡ line.now)) result }
+    requires answer { IsAnswer status }
+    requires some { 0 < length line.now }
+    ensures ends { Ends K.written K.faults (LeadsBySome K.leads) out.old out.new 0 0
+        (λ s text. (s ≡ status) × (text ≡ line.now)) result }
     ensures either { (result ≡ status) ⊎ (result ≡ Status.WriteFault) }
 {
     match out.put(line) {
@@ -23,7 +26,7 @@ pub fn put_answer<K: Sink>(out: &mut K, line: &[u8], status: Status) -> Status
 
 /// Puts the line on a file that is too long.
 pub fn put_size<K: Sink>(out: &mut K, number: usize) -> Status
-    ensures { Ends K.written K.faults K.leads out.old out.new 0 0 (Answers (TooLong number)) result }
+    ensures { Ends K.written K.faults (LeadsBySome K.leads) out.old out.new 0 0 (Answers (TooLong number)) result }
 {
     let mut line: Line = ArrayVec::new();
     add_text(&mut line, b"refused size");
@@ -34,7 +37,8 @@ pub fn put_size<K: Sink>(out: &mut K, number: usize) -> Status
 
 /// Puts the line on a file that is no image.
 pub fn put_image<K: Sink>(out: &mut K, refusal: &ImageError) -> Status
-    ensures { Ends K.written K.faults K.leads out.old out.new 0 0 (Answers (BadImage refusal.now)) result }
+    ensures { Ends K.written K.faults (LeadsBySome K.leads) out.old out.new 0 0
+        (Answers (BadImage refusal.now)) result }
 {
     let mut line: Line = ArrayVec::new();
     add_text(&mut line, b"refused image");
@@ -46,7 +50,7 @@ pub fn put_image<K: Sink>(out: &mut K, refusal: &ImageError) -> Status
 
 /// Puts the line on code that has no units.
 pub fn put_code<K: Sink>(out: &mut K, refusal: &CodeError) -> Status
-    ensures { Ends K.written K.faults K.leads out.old out.new 0 0 (Answers (BadCode refusal.now)) result }
+    ensures { Ends K.written K.faults (LeadsBySome K.leads) out.old out.new 0 0 (Answers (BadCode refusal.now)) result }
 {
     let mut line: Line = ArrayVec::new();
     add_text(&mut line, b"refused code");

@@ -4,6 +4,7 @@ ghost use Rattle.mote_base.specs.Written.{Puts};
 ghost use Rattle.domain_model.specs.Good.{Good};
 ghost use Rattle.domain_model.specs.Text.{text, texts};
 ghost use Rattle.mote_sim.specs.Playing.{Plays};
+ghost use Rattle.mote_sim.specs.Pieces.{LeadsBySome};
 
 use crate::trace_text::put_line;
 use arrayvec::ArrayVec;
@@ -13,7 +14,7 @@ use mote_core::Mote;
 
 // Puts a line of the trace by one put.
 fn tell_line<K: Sink>(out: &mut K, told: &TraceLine) -> Result<(), Failed>
-    ensures { Puts K.written K.faults K.leads out.old out.new (text told.now) result }
+    ensures { Puts K.written K.faults (LeadsBySome K.leads) out.old out.new (text told.now) result }
 {
     let mut line: Line = ArrayVec::new();
     put_line(told, &mut line);
@@ -22,7 +23,7 @@ fn tell_line<K: Sink>(out: &mut K, told: &TraceLine) -> Result<(), Failed>
 
 // Puts the lines in their order, up to the first put that fails.
 fn tell_lines<K: Sink>(out: &mut K, told: &[TraceLine]) -> Result<(), Failed>
-    ensures { Puts K.written K.faults K.leads out.old out.new (texts told.now) result }
+    ensures { Puts K.written K.faults (LeadsBySome K.leads) out.old out.new (texts told.now) result }
 {
     for line in told {
         tell_line(out, line)?;
@@ -35,7 +36,7 @@ fn tell_lines<K: Sink>(out: &mut K, told: &[TraceLine]) -> Result<(), Failed>
 pub fn play<K: Sink>(mote: &mut Mote, lines: &mut Lines, out: &mut K) -> Result<(), Failed>
     requires good { Good mote.old }
     requires going { mote.old.ended ≡ Turned.More }
-    ensures { Plays K.written K.faults K.leads out.old out.new mote.old result }
+    ensures { Plays K.written K.faults (LeadsBySome K.leads) out.old out.new mote.old result }
 {
     'turns: loop {
         lines.clear();

@@ -1,6 +1,7 @@
 //! Reading the files of a command.
 ghost use Rattle.std.specs.Prelude.{◌≡◌, ◌≤◌, ◌<◌, ◌^◌, length, IsTrue, IfOk};
 ghost use Rattle.mote_sim.specs.declared.reading.ReadStop.TheVariants.{Memory, Fault};
+ghost use Rattle.mote_sim.specs.Asking.{AsksFile, AsksFiles};
 ghost use Rattle.mote_sim.specs.Reading.{Reads, Gathers, AdmitsEach};
 
 use crate::request::limit_of;
@@ -58,6 +59,7 @@ fn read_file<F: Shelf>(
     requires name { IsTrue (F.admits shelf.old name.now) }
     requires limit { limit < 2 ^ 32 }
     ensures reads { Reads (F.files shelf.old) name.now number limit (F.faults shelf.old) (F.faults shelf.new) result }
+    ensures asks { AsksFile F.leads shelf.old shelf.new name.now limit result }
     ensures later { F.faults shelf.old ≤ F.faults shelf.new }
     ensures files { F.files shelf.new ≡ F.files shelf.old }
     ensures names { F.admits shelf.new ≡ F.admits shelf.old }
@@ -86,7 +88,9 @@ pub fn read_files<F: Shelf>(
 ) -> Result<Vec<Vec<u8>>, ReadStop>
     requires { AdmitsEach (F.admits shelf.old) names.now }
     ensures count { IfOk result (λ files. length files.items ≡ length names.now) }
-    ensures gathers { Gathers (F.files shelf.old) (record { kind = kind; files = names.now }) (F.faults shelf.old) (F.faults shelf.new) result }
+    ensures gathers { Gathers (F.files shelf.old) (record { kind = kind; files = names.now })
+        (F.faults shelf.old) (F.faults shelf.new) result }
+    ensures asks { AsksFiles F.leads shelf.old shelf.new kind names.now result }
     ensures later { F.faults shelf.old ≤ F.faults shelf.new }
 {
     let mut files = Vec::new(alloc);

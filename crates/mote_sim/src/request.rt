@@ -6,7 +6,7 @@ ghost use Rattle.mote_sim.specs.Request.{asked, HasItsOperands};
 
 use domain_model::Kind;
 use mote_base::Word;
-use mote_layout::{IMAGE_BYTES, SCRIPT_BYTES};
+use mote_layout::{IMAGE_BYTES, IMAGES, SCRIPT_BYTES};
 
 /// What the words ask for.
 #[derive(Clone, Copy)]
@@ -52,7 +52,7 @@ fn takes(kind: Kind, count: usize) -> bool
     ensures { result ≡ takes kind count }
 {
     match kind {
-        Kind::Run => (2..=65).contains(&count),
+        Kind::Run => (2..=1 + IMAGES).contains(&count),
         Kind::Listing => count == 1,
     }
 }

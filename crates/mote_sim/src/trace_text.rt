@@ -1,6 +1,7 @@
 //! The text of a line of a trace.
 ghost use Rattle.std.specs.Prelude.{◌≡◌, ◌≤◌, ◌<◌, ◌+◌, ◌++◌, length, codes, decimal};
 ghost use Rattle.arrayvec.specs.ArrayVec.{array_vec_len};
+ghost use Rattle.mote_base.specs.Lines.{line_bytes};
 ghost use Rattle.domain_model.specs.Text.{text, field, rule_text, address_text, hex_digit};
 
 use domain_model::{Rule, TraceLine};
@@ -9,7 +10,7 @@ use mote_base::Line;
 
 /// Adds bytes that have room.
 pub fn add_text(line: &mut Line, piece: &[u8])
-    requires { array_vec_len line.old + length piece.now ≤ 256 }
+    requires { array_vec_len line.old + length piece.now ≤ line_bytes }
     ensures items { line.new.items ≡ line.old.items ++ piece.now }
     ensures len { array_vec_len line.new ≡ array_vec_len line.old + length piece.now }
 {
@@ -18,7 +19,7 @@ pub fn add_text(line: &mut Line, piece: &[u8])
 
 /// Adds a number in decimal.
 pub fn add_number(line: &mut Line, number: u64)
-    requires { array_vec_len line.old + 20 ≤ 256 }
+    requires { array_vec_len line.old + 20 ≤ line_bytes }
     ensures items { line.new.items ≡ line.old.items ++ decimal number }
     ensures len { array_vec_len line.new ≤ array_vec_len line.old + 20 }
 {
@@ -28,7 +29,7 @@ pub fn add_number(line: &mut Line, number: u64)
 
 /// Adds a space and a number.
 pub fn add_field(line: &mut Line, number: u64)
-    requires { array_vec_len line.old + 21 ≤ 256 }
+    requires { array_vec_len line.old + 21 ≤ line_bytes }
     ensures items { line.new.items ≡ line.old.items ++ field number }
     ensures len { array_vec_len line.new ≤ array_vec_len line.old + 21 }
 {
@@ -46,7 +47,7 @@ fn hex_digit(value: u16) -> u8
 
 // Adds an address: four hexadecimal digits.
 fn add_address(line: &mut Line, address: u16)
-    requires { array_vec_len line.old + 4 ≤ 256 }
+    requires { array_vec_len line.old + 4 ≤ line_bytes }
     ensures items { line.new.items ≡ line.old.items ++ address_text address }
     ensures len { array_vec_len line.new ≡ array_vec_len line.old + 4 }
 {
@@ -60,7 +61,7 @@ fn add_address(line: &mut Line, address: u16)
 }
 
 fn add_rule(line: &mut Line, rule: Rule)
-    requires { array_vec_len line.old + 10 ≤ 256 }
+    requires { array_vec_len line.old + 10 ≤ line_bytes }
     ensures items { line.new.items ≡ line.old.items ++ rule_text rule }
     ensures len { array_vec_len line.new ≤ array_vec_len line.old + 10 }
 {

@@ -1,11 +1,12 @@
 //! The high queue and the low queue.
 
-ghost use Rattle.std.specs.Prelude.{◌≡◌, ◌<◌, ◌≤◌, ◌↔◌, [], length, slice_get, option_copied, None, IfOk, IfErr, IsOk};
+ghost use Rattle.std.specs.Prelude.{◌≡◌, ◌<◌, ◌≤◌, ◌↔◌, [], length, slice_get, option_copied, is_some, None, IfOk, IfErr, IsOk};
+ghost use Rattle.std.specs.List.{list_any};
 ghost use Rattle.mote_base.specs.Messages.{Lists, AreWithinLimit, queue_limit, list_of, in_order, posted, front, without_front, first, without, names};
 
-use crate::ring::{QUEUE_MESSAGES, take_first};
+use crate::ring::take_first;
 use circular_buffer::HeapCircularBuffer;
-use mote_base::{Msg, NoMemory};
+use mote_base::{Msg, NoMemory, QUEUE_MESSAGES};
 use std::alloc::Global;
 use std::marker::Model;
 
@@ -18,6 +19,7 @@ pub struct Queues<P: Drop> {
 
 impl<P: Drop> Model for Queues<P> {
     ghost use Rattle.std.specs.Prelude.{◌≡◌, ◌≤◌, length};
+    ghost use Rattle.std.specs.List.{list_any};
     ghost use Rattle.mote_base.specs.Messages.{Lists, queue_limit};
     ghost use Rattle.mote_base.specs.declared.message.Msg.{Msg};
 
@@ -67,6 +69,14 @@ impl<P: Drop> Queues<P> {
     /// Takes the first message whose sender or receiver has the id, the high queue before the low one.
     pub fn take_named(&mut self, id: u8) -> Option<Msg<P>>
         ensures first { result ≡ first (names id) self.old }
+        ensures found { is_some result ≡ list_any (names id) (in_order self.old) }
+        ensures rest { self.new ≡ without (names id) self.old }
+    {
+        self.take(id)
+    }
+
+    fn take(&mut self, id: u8) -> Option<Msg<P>>
+        ensures first { result ≡ first (names id) self.old }
         ensures rest { self.new ≡ without (names id) self.old }
     {
         let m = take_first(&mut self.high, id);
@@ -92,7 +102,7 @@ impl<P: Drop> Queues<P> {
         self.queue(high).get(i)
     }
 
-    // The queue of one kind.
+    /// The queue of one kind.
     fn queue(&self, high: bool) -> &HeapCircularBuffer<Msg<P>>
         ensures items { result.now.items ≡ list_of high self.now }
         ensures limit { AreWithinLimit self.now }

@@ -8,9 +8,6 @@ ghost use Rattle.mote_base.specs.Messages.{names, without_first};
 use circular_buffer::HeapCircularBuffer;
 use mote_base::Msg;
 
-/// How many messages a queue holds.
-pub(crate) const QUEUE_MESSAGES: usize = 16;
-
 /// Takes the first message that names the id out of a queue. The others keep their order.
 pub(crate) fn take_first<P: Drop>(queue: &mut HeapCircularBuffer<Msg<P>>, id: u8) -> Option<Msg<P>>
     requires { length queue.old.items ≤ queue.old.capacity }

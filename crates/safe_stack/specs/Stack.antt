@@ -1,10 +1,7 @@
 -- The frames of calls, the top one first.
-use Rattle.std.specs.Prelude.{ℕ, nat_lt, List, ◌∷◌, length, if◌then◌else◌}
-use Rattle.safe_stack.specs.declared.frame.Frame.{Frame}
-
--- how many frames there may be
-abbrev pub frame_limit : ℕ
-frame_limit = 32
+use Rattle.std.specs.Prelude.{nat_lt, List, ◌∷◌, length, if◌then◌else◌}
+use Rattle.mote_base.specs.declared.frame.Frame.{Frame}
+use Rattle.mote_base.specs.Frames.{frame_limit}
 
 -- a frame on top, or nothing changed where there is no room
 abbrev pub pushed : Frame → List Frame → List Frame

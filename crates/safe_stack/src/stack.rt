@@ -1,15 +1,13 @@
 //! A bounded stack of frames.
 
 ghost use Rattle.std.specs.Prelude.{◌≡◌, ◌≤◌, ◌<◌, ◌↔◌, [], ◌∷◌, length, drop, slice_get, is_ok, None, IsOk};
-ghost use Rattle.safe_stack.specs.Stack.{frame_limit, pushed};
+ghost use Rattle.mote_base.specs.Frames.{frame_limit};
+ghost use Rattle.safe_stack.specs.Stack.{pushed};
 
-use crate::Frame;
 use arrayvec::ArrayVec;
+use mote_base::{FRAMES, Frame};
 use std::marker::Model;
 use thiserror::Error;
-
-/// How many frames the stack holds.
-const FRAMES: usize = 32;
 
 /// The stack holds as many frames as it can.
 #[derive(Clone, Copy, Debug, PartialEq, Eq, Error)]
@@ -24,8 +22,8 @@ pub struct SafeStack {
 
 impl Model for SafeStack {
     ghost use Rattle.std.specs.Prelude.{◌≤◌, List, reverse, length};
-    ghost use Rattle.safe_stack.specs.declared.frame.Frame.{Frame};
-    ghost use Rattle.safe_stack.specs.Stack.{frame_limit};
+    ghost use Rattle.mote_base.specs.declared.frame.Frame.{Frame};
+    ghost use Rattle.mote_base.specs.Frames.{frame_limit};
 
     ghost Value = { List Frame };
 

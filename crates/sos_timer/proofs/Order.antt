@@ -1,10 +1,10 @@
 -- The order in which timers fire, and lists that stand in it.
-use Rattle.std.proofs.Common.{◌≡◌, ℕ, suc, ◌+◌, ◌<◌, ◌≤◌, ◌||◌, eqb, nat_lt, Bool, true, false, not, List, [], ◌∷◌, length, filter, insert, inl, inr, refl, sym, ap, ◌∙◌, arith}
+use Rattle.std.proofs.Common.{◌≡◌, ◌↔◌, ℕ, nat_le, Option, Some, None, suc, ◌+◌, ◌<◌, ◌≤◌, ◌||◌, eqb, nat_lt, Bool, true, false, not, List, [], ◌∷◌, length, filter, insert, inl, inr, refl, sym, ap, ◌∙◌, arith, option_map}
 use Rattle.std.specs.List.{list_any, prefix_len}
 use Rattle.std.proofs.lemmas.Bool.{cases_Bool, false≢true}
 use Rattle.std.proofs.lemmas.Bool.Decides.{nat_tests}
 use Rattle.mote_base.specs.declared.timer.Timer.{Timer}
-use Rattle.mote_base.specs.Timers.{fires_before, NoneBefore, InOrder, inserted, is_of, without, timer_limit}
+use Rattle.mote_base.specs.Timers.{fires_before, NoneBefore, InOrder, inserted, is_of, without, firing, AreToCome, timer_limit}
 
 -- of two timers, not each fires before the other
 asymmetric : (s t : Timer) → fires_before s t ≡ true → fires_before t s ≡ false
@@ -114,3 +114,29 @@ room «module» id ts full one limit is_full is_one =
           let same = ap length (filter-none (is_of «module» id) ts (sym is_one ∙ none)) in
           rw same (grind (arith, nat_tests))
     ]
+
+-- what doesn't fire before a timer is due no earlier
+later : (s t : Timer) → fires_before s t ≡ false → t.due ≤ s.due
+later s t after = grind (arith, nat_tests)
+
+all-to-come : (now : ℕ) (t : Timer) (ts : List Timer) → now < t.due → NoneBefore t ts → AreToCome now ts
+all-to-come now t [] less none = tt
+all-to-come now t (s ∷ ss) less none = (omega (arith, less, later s t none.0), all-to-come now t ss less none.1)
+
+-- no timer fires exactly where the moment of none has come
+pub firing-none : (now : ℕ) (ts : List Timer) → InOrder ts → (firing now ts ≡ None) ↔ AreToCome now ts
+firing-none now [] order = (λ _. tt, λ _. refl)
+firing-none now (t ∷ ts) order =
+    elim (cases_Bool (nat_le t.due now)) [
+      | inl come ↦
+          let past : t.due ≤ now = grind (arith, nat_tests) in
+          (λ e. let some : Some t ≡ None = rw come at e in absurd cc, λ all. absurd (omega (arith, past, all.0)))
+      | inr ahead ↦
+          let less : now < t.due = grind (arith, nat_tests) in
+          (λ _. (less, all-to-come now t ts less order.0), λ _. rw ahead refl)
+    ]
+
+-- an option whose value was changed holds one exactly where it did
+pub map-none : {A B : Type 0} (f : A → B) (o : Option A) (r : Option B) → r ≡ option_map f o → (r ≡ None) ↔ (o ≡ None)
+map-none f None r is = (λ _. refl, λ _. is)
+map-none f (Some x) r is = (λ e. let some : Some (f x) ≡ None = sym is ∙ e in absurd cc, λ e. absurd cc)

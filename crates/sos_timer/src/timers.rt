@@ -1,17 +1,14 @@
 //! The running timers, kept in the order in which they fire.
 
-ghost use Rattle.std.specs.Prelude.{◌≡◌, ◌≤◌, ◌<◌, ◌+◌, ◌^◌, ◌↔◌, ◌≢◌, [], not, length, slice_get, option_map, nat_lt};
+ghost use Rattle.std.specs.Prelude.{◌≡◌, ◌≤◌, ◌<◌, ◌+◌, ◌^◌, ◌↔◌, ◌≢◌, [], not, length, slice_get, option_map, nat_lt, None};
 ghost use Rattle.std.specs.List.{list_any, prefix_len};
-ghost use Rattle.mote_base.specs.Timers.{InOrder, timer_limit, is_of, without, without_module, started, firing, after_firing, fires_before, inserted};
+ghost use Rattle.mote_base.specs.Timers.{InOrder, timer_limit, is_of, without, without_module, started, firing, after_firing, AreToCome, fires_before, inserted};
 ghost use Rattle.sos_timer.specs.declared.timers.Started.TheVariants as outcome;
 ghost use Rattle.mote_base.specs.declared.timer.Timer.{Timer};
 
 use arrayvec::ArrayVec;
-use mote_base::Timer;
+use mote_base::{TIMERS, Timer};
 use std::marker::Model;
-
-/// How many timers may run at once.
-const TIMERS: usize = 16;
 
 /// What became of a start.
 #[derive(Clone, Copy, Debug, PartialEq, Eq)]
@@ -76,13 +73,15 @@ impl Timers {
     pub fn start(&mut self, module: u8, id: u8, now: u64, ticks: u16, again: bool) -> Started
         requires { now < 2 ^ 63 }
         ensures zero { (result ≡ outcome.Zero) ↔ (ticks ≡ 0) }
+        ensures limit { (length self.old ≤ timer_limit) × (length self.new ≤ timer_limit) }
         ensures full { (result ≡ outcome.Full) ↔ ((ticks ≢ 0) × (timer_limit ≤ length (without «module» id self.old))) }
         ensures timers { self.new ≡ started (record { «module» = «module»; id = id; due = now + ticks; ticks = ticks; again = again }) self.old }
     {
+        let has_room = self.has_room(module, id);
         if ticks == 0 {
             return Started::Zero;
         }
-        if !self.has_room(module, id) {
+        if !has_room {
             return Started::Full;
         }
         self.stop(module, id);
@@ -108,6 +107,16 @@ impl Timers {
 
     /// Takes the first timer whose due moment has come, or starts it anew from now where it repeats.
     pub fn due(&mut self, now: u64) -> Option<Fired>
+        requires { now < 2 ^ 63 }
+        ensures fired { result ≡ option_map (λ (t : Timer). record { «module» = t.«module»; id = t.id }) (firing now self.old) }
+        ensures timers { self.new ≡ after_firing now self.old }
+        ensures none { (result ≡ None) ↔ AreToCome now self.old }
+        ensures order { InOrder self.old }
+    {
+        self.fire(now)
+    }
+
+    fn fire(&mut self, now: u64) -> Option<Fired>
         requires { now < 2 ^ 63 }
         ensures fired { result ≡ option_map (λ (t : Timer). record { «module» = t.«module»; id = t.id }) (firing now self.old) }
         ensures timers { self.new ≡ after_firing now self.old }
@@ -140,6 +149,8 @@ impl Timers {
     /// A timer by its place in the order in which they fire, counted from 0.
     pub fn row(&self, i: usize) -> Option<TimerRow>
         ensures row { result ≡ option_map (λ (t : Timer). record { «module» = t.«module»; id = t.id; due = t.due }) (slice_get self.now i) }
+        ensures none { (result ≡ None) ↔ (length self.now ≤ i) }
+        ensures order { InOrder self.now }
         ensures limit { length self.now ≤ timer_limit }
     {
         let timer = self.timers.get(i)?;
@@ -157,26 +168,28 @@ impl Timers {
         self.timers.retain(|t| t.module != module);
     }
 
-    // Whether fewer others run than may, apart from the timer of this module and id.
+    /// Whether fewer others run than may, apart from the timer of this module and id.
     fn has_room(&self, module: u8, id: u8) -> bool
-        ensures { result ≡ nat_lt (length (without «module» id self.now)) timer_limit }
+        ensures room { result ≡ nat_lt (length (without «module» id self.now)) timer_limit }
+        ensures limit { length self.now ≤ timer_limit }
     {
         let full = self.timers.is_full();
         let held = self.runs(module, id);
         !full || held
     }
 
-    // Whether the timer of this module and id runs.
+    /// Whether the timer of this module and id runs.
     fn runs(&self, module: u8, id: u8) -> bool
         ensures { result ≡ list_any (is_of «module» id) self.now }
     {
         self.timers.iter().any(|t| is_of(module, id, t))
     }
 
-    // Puts a timer behind those that fire before it.
+    /// Puts a timer behind those that fire before it.
     fn insert(&mut self, timer: Timer)
         requires { length self.old < timer_limit }
-        ensures { self.new ≡ inserted timer self.old }
+        ensures timers { self.new ≡ inserted timer self.old }
+        ensures limit { length self.new ≤ timer_limit }
     {
         let place = count_before(self.timers.as_slice(), &timer);
         self.timers.insert(place, timer);

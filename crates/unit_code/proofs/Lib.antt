@@ -7,8 +7,11 @@ pub mod FirstRefused
 pub mod Last
 pub mod Marks
 pub mod Numbers
+pub mod Offsets
 pub mod Places
 pub mod ProperUnits
+pub mod ReadAgain
 pub mod Rest
 pub mod SoundKinds
+pub mod SpelledBack
 pub mod Strays

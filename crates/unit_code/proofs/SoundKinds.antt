@@ -12,7 +12,8 @@ use Rattle.unit_code.specs.declared.unit.Unit.{Unit}
 use Rattle.unit_code.specs.declared.unit.Unit.TheVariants.{Plain, Store}
 use Rattle.unit_code.specs.declared.kinds.Standing.{Standing}
 use Rattle.unit_code.specs.declared.kinds.Standing.TheVariants.{Barred}
-use Rattle.unit_code.specs.Kinds.{is_spl_or_sph, is_sreg, off_pointer, standing_call, standing_entry, standing_in, standing_of, standing_out, standing_rcall, whole, x_low, y_low, z_low}
+use Rattle.unit_code.specs.Kinds.{is_spl_or_sph, is_sreg, off_pointer, standing_call, standing_entry, standing_in, standing_of, standing_out, standing_rcall, whole}
+use Rattle.mote_layout.specs.Memory.{pointer_x, pointer_y, pointer_z}
 use Rattle.unit_code.specs.Sound.{AreSound, IsSound}
 
 -- a choice by a test is sound where both sides are
@@ -65,18 +66,18 @@ standing_is_sound (StdZ r q) e = ((refl, e), λ count. tt)
 standing_is_sound (Sts r k) e = ((refl, e), λ count. tt)
 standing_is_sound (Push r) e = (e, λ count. tt)
 standing_is_sound (Pop d) e = (e, λ count. tt)
-standing_is_sound (StXInc r) e = off_pointer_is_sound x_low r (Store (StXInc r)) (λ is. ((is, e), λ count. tt))
-standing_is_sound (StXDec r) e = off_pointer_is_sound x_low r (Store (StXDec r)) (λ is. ((is, e), λ count. tt))
-standing_is_sound (StYInc r) e = off_pointer_is_sound y_low r (Store (StYInc r)) (λ is. ((is, e), λ count. tt))
-standing_is_sound (StYDec r) e = off_pointer_is_sound y_low r (Store (StYDec r)) (λ is. ((is, e), λ count. tt))
-standing_is_sound (StZInc r) e = off_pointer_is_sound z_low r (Store (StZInc r)) (λ is. ((is, e), λ count. tt))
-standing_is_sound (StZDec r) e = off_pointer_is_sound z_low r (Store (StZDec r)) (λ is. ((is, e), λ count. tt))
-standing_is_sound (LdXInc r) e = off_pointer_is_sound x_low r (Plain (LdXInc r)) (λ is. ((is, e), λ count. tt))
-standing_is_sound (LdXDec r) e = off_pointer_is_sound x_low r (Plain (LdXDec r)) (λ is. ((is, e), λ count. tt))
-standing_is_sound (LdYInc r) e = off_pointer_is_sound y_low r (Plain (LdYInc r)) (λ is. ((is, e), λ count. tt))
-standing_is_sound (LdYDec r) e = off_pointer_is_sound y_low r (Plain (LdYDec r)) (λ is. ((is, e), λ count. tt))
-standing_is_sound (LdZInc r) e = off_pointer_is_sound z_low r (Plain (LdZInc r)) (λ is. ((is, e), λ count. tt))
-standing_is_sound (LdZDec r) e = off_pointer_is_sound z_low r (Plain (LdZDec r)) (λ is. ((is, e), λ count. tt))
+standing_is_sound (StXInc r) e = off_pointer_is_sound pointer_x r (Store (StXInc r)) (λ is. ((is, e), λ count. tt))
+standing_is_sound (StXDec r) e = off_pointer_is_sound pointer_x r (Store (StXDec r)) (λ is. ((is, e), λ count. tt))
+standing_is_sound (StYInc r) e = off_pointer_is_sound pointer_y r (Store (StYInc r)) (λ is. ((is, e), λ count. tt))
+standing_is_sound (StYDec r) e = off_pointer_is_sound pointer_y r (Store (StYDec r)) (λ is. ((is, e), λ count. tt))
+standing_is_sound (StZInc r) e = off_pointer_is_sound pointer_z r (Store (StZInc r)) (λ is. ((is, e), λ count. tt))
+standing_is_sound (StZDec r) e = off_pointer_is_sound pointer_z r (Store (StZDec r)) (λ is. ((is, e), λ count. tt))
+standing_is_sound (LdXInc r) e = off_pointer_is_sound pointer_x r (Plain (LdXInc r)) (λ is. ((is, e), λ count. tt))
+standing_is_sound (LdXDec r) e = off_pointer_is_sound pointer_x r (Plain (LdXDec r)) (λ is. ((is, e), λ count. tt))
+standing_is_sound (LdYInc r) e = off_pointer_is_sound pointer_y r (Plain (LdYInc r)) (λ is. ((is, e), λ count. tt))
+standing_is_sound (LdYDec r) e = off_pointer_is_sound pointer_y r (Plain (LdYDec r)) (λ is. ((is, e), λ count. tt))
+standing_is_sound (LdZInc r) e = off_pointer_is_sound pointer_z r (Plain (LdZInc r)) (λ is. ((is, e), λ count. tt))
+standing_is_sound (LdZDec r) e = off_pointer_is_sound pointer_z r (Plain (LdZDec r)) (λ is. ((is, e), λ count. tt))
 standing_is_sound (In d port) e = in_is_sound port (Plain (In d port)) (λ is. ((is, e), λ count. tt))
 standing_is_sound (Out r port) e = out_is_sound port (Plain (Out r port)) (λ is. ((is, e), λ count. tt))
 standing_is_sound Ijmp e = tt

@@ -4,6 +4,7 @@
 use Rattle.std.specs.Prelude.{ℕ, ◌+◌, ◌^◌, ◌==◌, ◌||◌, nat_lt, Bool, true, false, Option, Some, ℤ, pos, if◌then◌else◌, zero}
 use Rattle.avr_isa.specs.declared.instruction.Instr.{Instr}
 use Rattle.avr_isa.specs.declared.instruction.Instr.TheVariants.{Cpse, Sbrc, Sbrs, Push, Pop, StX, StdY, StdZ, Sts, StXInc, StXDec, StYInc, StYDec, StZInc, StZDec, LdXInc, LdXDec, LdYInc, LdYDec, LdZInc, LdZDec, In, Out, Ijmp, Jmp, LpmR0, LpmZ, LpmZInc, ElpmR0, ElpmZ, ElpmZInc, Spm, Reti, Sleep, Wdr, Break, Sbi, Cbi, Sbic, Sbis, Brbs, Brbc, Rjmp, Rcall, Call, Icall, Ret}
+use Rattle.mote_layout.specs.Memory.{pointer_x, pointer_y, pointer_z, spl_port, sph_port, sreg_port}
 use Rattle.mote_layout.specs.Page.{entry_at}
 use Rattle.mote_layout.specs.declared.page.Entry.{Entry}
 use Rattle.mote_layout.specs.declared.page.Entry.TheVariants.{Kernel, Slot}
@@ -26,22 +27,12 @@ aimed aim offset = Part (Aimed aim offset)
 abbrev pub off_pointer : ℕ → ℕ → Unit → Standing
 off_pointer low register u = if register == low || register == low + 1 then Barred 6 else whole u
 
--- X is R27:R26, Y is R29:R28, Z is R31:R30 (ATmega128 data sheet, "The X-register, Y-register, and Z-register")
-abbrev pub x_low : ℕ
-x_low = 26
-
-abbrev pub y_low : ℕ
-y_low = 28
-
-abbrev pub z_low : ℕ
-z_low = 30
-
--- the ports of SP's two bytes and of SREG (ATmega128 data sheet, "Register Summary")
+-- the ports of SP's two bytes and of SREG
 abbrev pub is_spl_or_sph : ℕ → Bool
-is_spl_or_sph port = port == 0x3D || port == 0x3E
+is_spl_or_sph port = port == spl_port || port == sph_port
 
 abbrev pub is_sreg : ℕ → Bool
-is_sreg port = port == 0x3F
+is_sreg port = port == sreg_port
 
 abbrev pub standing_in : ℕ → Unit → Standing
 standing_in port u = if is_spl_or_sph port || is_sreg port then whole u else Barred 4
@@ -82,18 +73,18 @@ standing_of (StX r) = whole (unit.Store (StX r))
 standing_of (StdY r q) = whole (unit.Store (StdY r q))
 standing_of (StdZ r q) = whole (unit.Store (StdZ r q))
 standing_of (Sts r k) = whole (unit.Store (Sts r k))
-standing_of (StXInc r) = off_pointer x_low r (unit.Store (StXInc r))
-standing_of (StXDec r) = off_pointer x_low r (unit.Store (StXDec r))
-standing_of (StYInc r) = off_pointer y_low r (unit.Store (StYInc r))
-standing_of (StYDec r) = off_pointer y_low r (unit.Store (StYDec r))
-standing_of (StZInc r) = off_pointer z_low r (unit.Store (StZInc r))
-standing_of (StZDec r) = off_pointer z_low r (unit.Store (StZDec r))
-standing_of (LdXInc d) = off_pointer x_low d (unit.Plain (LdXInc d))
-standing_of (LdXDec d) = off_pointer x_low d (unit.Plain (LdXDec d))
-standing_of (LdYInc d) = off_pointer y_low d (unit.Plain (LdYInc d))
-standing_of (LdYDec d) = off_pointer y_low d (unit.Plain (LdYDec d))
-standing_of (LdZInc d) = off_pointer z_low d (unit.Plain (LdZInc d))
-standing_of (LdZDec d) = off_pointer z_low d (unit.Plain (LdZDec d))
+standing_of (StXInc r) = off_pointer pointer_x r (unit.Store (StXInc r))
+standing_of (StXDec r) = off_pointer pointer_x r (unit.Store (StXDec r))
+standing_of (StYInc r) = off_pointer pointer_y r (unit.Store (StYInc r))
+standing_of (StYDec r) = off_pointer pointer_y r (unit.Store (StYDec r))
+standing_of (StZInc r) = off_pointer pointer_z r (unit.Store (StZInc r))
+standing_of (StZDec r) = off_pointer pointer_z r (unit.Store (StZDec r))
+standing_of (LdXInc d) = off_pointer pointer_x d (unit.Plain (LdXInc d))
+standing_of (LdXDec d) = off_pointer pointer_x d (unit.Plain (LdXDec d))
+standing_of (LdYInc d) = off_pointer pointer_y d (unit.Plain (LdYInc d))
+standing_of (LdYDec d) = off_pointer pointer_y d (unit.Plain (LdYDec d))
+standing_of (LdZInc d) = off_pointer pointer_z d (unit.Plain (LdZInc d))
+standing_of (LdZDec d) = off_pointer pointer_z d (unit.Plain (LdZDec d))
 standing_of (In d port) = standing_in port (unit.Plain (In d port))
 standing_of (Out r port) = standing_out port (unit.Plain (Out r port))
 standing_of Ijmp = Barred 1

@@ -1,5 +1,5 @@
 -- The conditions in words: what each says of the code, and which is told.
-use Rattle.std.specs.Prelude.{◌≡◌, ◌⊎◌, ℕ, ◌<◌, ◌≤◌, min, true, false, List, [], ◌∷◌, drop, Some, unwrap_or}
+use Rattle.std.specs.Prelude.{◌≡◌, ◌⊎◌, ℕ, ◌<◌, ◌≤◌, min, Bool, true, false, List, [], ◌∷◌, drop, Some, unwrap_or}
 use Rattle.std.specs.List.{Contains}
 use Rattle.mote_layout.specs.Memory.{bank_words}
 use Rattle.unit_code.specs.declared.error.CodeError.{CodeError}
@@ -33,16 +33,16 @@ LeadsAstray places place (Aimed aim offset) behind = (word : ℕ) → reached pl
 LeadsAstray places place (Whole (Skip i)) behind = ¬ CanPass behind
 LeadsAstray places place (Whole _) behind = ⊥
 
--- The condition holds of the words and marks, with the word or count that it names.
-abbrev pub Holds : List ℕ → List ℕ → CodeError → Type 0
-Holds words marks (Undefined word) = (behind : List Item) × StandsIn words word NoInstruction behind
-Holds words marks (Refused word kind) = (behind : List Item) × StandsIn words word (Barred kind) behind
-Holds words marks (Target word) = (piece : Piece) × (behind : List Item) × StandsIn words word (Part piece) behind × LeadsAstray (places_of words) word piece behind
-Holds words marks FallsOff = goes_on (units_of words) ≡ true
-Holds words marks Empty = words ≡ []
-Holds words marks (TooLong count) = (bank_words < long_length (units_of words)) × (count ≡ min (long_length (units_of words)) 65535)
-Holds words marks (Entry word) = Contains marks word × (¬ Contains (places_of words) word)
-Holds words marks NoMemory = ⊥
+-- The condition holds of the words and marks of an image that is sealed or not, with the word or count that it names.
+abbrev pub Holds : List ℕ → List ℕ → Bool → CodeError → Type 0
+Holds words marks sealed (Undefined word) = (behind : List Item) × StandsIn words word NoInstruction behind
+Holds words marks sealed (Refused word kind) = (behind : List Item) × StandsIn words word (Barred kind) behind
+Holds words marks sealed (Target word) = (piece : Piece) × (behind : List Item) × StandsIn words word (Part piece) behind × LeadsAstray (places_of words) word piece behind
+Holds words marks sealed FallsOff = goes_on (units_of words sealed) ≡ true
+Holds words marks sealed Empty = words ≡ []
+Holds words marks sealed (TooLong count) = (bank_words < long_length (units_of words sealed)) × (count ≡ min (long_length (units_of words sealed)) 65535)
+Holds words marks sealed (Entry word) = Contains marks word × (¬ Contains (places_of words) word)
+Holds words marks sealed NoMemory = ⊥
 
 -- the place of a condition in their order
 abbrev pub order : CodeError → ℕ
@@ -53,10 +53,10 @@ abbrev pub IsNoLater : CodeError → CodeError → Type 0
 IsNoLater e other = (order e < order other) ⊎ ((order e ≡ order other) × (error_word e ≤ error_word other))
 
 -- The first condition that holds, at its least word.
-pub record IsFirst (words marks : List ℕ) (e : CodeError) : Type 0 where
-  pub holds : Holds words marks e
-  pub first : (other : CodeError) → Holds words marks other → IsNoLater e other
+pub record IsFirst (words marks : List ℕ) (sealed : Bool) (e : CodeError) : Type 0 where
+  pub holds : Holds words marks sealed e
+  pub first : (other : CodeError) → Holds words marks sealed other → IsNoLater e other
 
 -- No condition holds.
-pub record NoneHolds (words marks : List ℕ) : Type 0 where
-  pub none : (e : CodeError) → Holds words marks e → ⊥
+pub record NoneHolds (words marks : List ℕ) (sealed : Bool) : Type 0 where
+  pub none : (e : CodeError) → Holds words marks sealed e → ⊥

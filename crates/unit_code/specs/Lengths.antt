@@ -4,7 +4,7 @@ use Rattle.avr_isa.specs.declared.instruction.Instr.{Instr}
 use Rattle.avr_isa.specs.Place.{second_word}
 use Rattle.avr_isa.specs.Table.{word_count}
 use Rattle.unit_code.specs.declared.unit.Unit.{Unit}
-use Rattle.unit_code.specs.declared.unit.Unit.TheVariants.{Plain, Store, Push, Pop, SpGroup, Reserve, Skip, Branch, Jump, LocalCall, KernelCall, SlotCall, SlotIndirect, Return}
+use Rattle.unit_code.specs.declared.unit.Unit.TheVariants.{Plain, Store, Load, Push, Pop, SpGroup, Reserve, Skip, Branch, Jump, LocalCall, KernelCall, SlotCall, SlotIndirect, Return}
 use Rattle.unit_code.specs.declared.unit.Shape.{Shape}
 use Rattle.unit_code.specs.declared.unit.Shape.TheVariants.{Long, Short}
 
@@ -24,12 +24,13 @@ by_shape Long long short = long
 by_shape Short long short = short
 
 -- The template of each unit, as a sum over its instructions.
--- A store, a push, a pop and a group stand behind the call of their guard, a local call behind that of its entry.
+-- A store, a checked load, a push, a pop and a group stand behind the call of their guard, a local call behind that of its entry.
 -- Reserve, an indirect call and a return are a call or a jump to the entry page alone.
 -- In its long form a skip stands over a jump over a jump, and a branch is turned round and stands over a jump.
 abbrev pub spelled_length : Unit → Shape → ℕ
 spelled_length (Plain i) shape = instruction_length i
 spelled_length (Store i) shape = call + instruction_length i
+spelled_length (Load i) shape = call + instruction_length i
 spelled_length (Push r) shape = call + 1
 spelled_length (Pop d) shape = call + 1
 spelled_length (SpGroup true) shape = call + 3

@@ -5,8 +5,10 @@ pub mod Kinds
 pub mod Law
 pub mod Lengths
 pub mod Listing
+pub mod Loads
 pub mod Proper
 pub mod Refusals
 pub mod Sound
+pub mod Spelled
 pub mod Targets
 pub mod Units

@@ -1,11 +1,14 @@
 //! What each instruction stands for in a module's code.
 
 ghost use Rattle.std.specs.Prelude.{◌≡◌, ◌<◌};
+ghost use Rattle.mote_layout.specs.Memory.{register_count};
 ghost use Rattle.unit_code.specs.Kinds.{off_pointer, standing_call, standing_in, standing_of, standing_out};
 
 use crate::unit::Unit;
 use avr_isa::Instr;
-use mote_layout::{Entry, entry_of};
+use mote_layout::{
+    Entry, POINTER_X, POINTER_Y, POINTER_Z, SPH_PORT, SPL_PORT, SREG_PORT, entry_of,
+};
 
 /// What stands at a word.
 #[derive(Clone, Copy)]
@@ -35,20 +38,6 @@ pub enum Aim {
     Calling,
 }
 
-// The lower registers of the pointers.
-const X: u8 = 26;
-
-const Y: u8 = 28;
-
-const Z: u8 = 30;
-
-// The ports of SP's two bytes and of SREG.
-const SPL_PORT: u8 = 0x3D;
-
-const SPH_PORT: u8 = 0x3E;
-
-const SREG_PORT: u8 = 0x3F;
-
 /// What an instruction outside of a group stands for.
 #[tactic(auto, unfolding(crate::specs::Kinds::standing_of))]
 pub fn standing_of(instruction: Instr) -> Standing
@@ -69,12 +58,12 @@ pub fn standing_of(instruction: Instr) -> Standing
         Instr::Push(r) => whole(Unit::Push(r)),
         Instr::Pop(d) => whole(Unit::Pop(d)),
         Instr::StX(_) | Instr::StdY(_, _) | Instr::StdZ(_, _) | Instr::Sts(_, _) => whole(store),
-        Instr::StXInc(r) | Instr::StXDec(r) => off_pointer(X, r, store),
-        Instr::StYInc(r) | Instr::StYDec(r) => off_pointer(Y, r, store),
-        Instr::StZInc(r) | Instr::StZDec(r) => off_pointer(Z, r, store),
-        Instr::LdXInc(d) | Instr::LdXDec(d) => off_pointer(X, d, plain),
-        Instr::LdYInc(d) | Instr::LdYDec(d) => off_pointer(Y, d, plain),
-        Instr::LdZInc(d) | Instr::LdZDec(d) => off_pointer(Z, d, plain),
+        Instr::StXInc(r) | Instr::StXDec(r) => off_pointer(POINTER_X, r, store),
+        Instr::StYInc(r) | Instr::StYDec(r) => off_pointer(POINTER_Y, r, store),
+        Instr::StZInc(r) | Instr::StZDec(r) => off_pointer(POINTER_Z, r, store),
+        Instr::LdXInc(d) | Instr::LdXDec(d) => off_pointer(POINTER_X, d, plain),
+        Instr::LdYInc(d) | Instr::LdYDec(d) => off_pointer(POINTER_Y, d, plain),
+        Instr::LdZInc(d) | Instr::LdZDec(d) => off_pointer(POINTER_Z, d, plain),
         Instr::In(_, port) => standing_in(port, plain),
         Instr::Out(_, port) => standing_out(port, plain),
         Instr::Ijmp | Instr::Jmp(_) => Standing::Barred(1),
@@ -101,7 +90,7 @@ fn aimed(aim: Aim, offset: i16) -> Standing
 
 /// A load or store that changes its pointer has no defined effect on the pointer's own registers.
 fn off_pointer(low: u8, register: u8, unit: Unit) -> Standing
-    requires { low < 32 }
+    requires { low < register_count }
     ensures { result ≡ off_pointer low register unit }
 {
     if register == low || register == low + 1 {

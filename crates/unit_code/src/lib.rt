@@ -13,16 +13,18 @@ mod bank;
 mod error;
 mod items;
 mod kinds;
+mod laws;
 mod list;
 mod reading;
 mod refusals;
 mod targets;
-#[cfg(test)]
-mod tests;
 mod unit;
 
 pub use bank::BankCode;
 pub use error::CodeError;
+pub use kinds::{Aim, Piece, Standing, standing_of};
+pub use laws::one_reading;
 pub use list::UnitList;
 pub use reading::units;
-pub use unit::{Shape, Unit, spelled_len};
+pub use targets::{number_of, number_reached, reached};
+pub use unit::{Shape, Unit, is_load, spelled_len};

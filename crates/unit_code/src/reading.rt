@@ -16,31 +16,41 @@ use crate::kinds::{Aim, Piece, Standing};
 use crate::list::UnitList;
 use crate::refusals::{refusal_of_items, refusal_of_units, stray_mark};
 use crate::targets::{number_of, number_reached};
-use crate::unit::Unit;
+use crate::unit::{Unit, guarded};
 use mote_base::Words;
 use std::alloc::Global;
 
-/// The units of the words, with the unit numbers of the marks.
+/// The units of the words of an image that is sealed or not, with the unit numbers of the marks.
 ///
 /// The words are at most 65,535, so that a place is a u16. A mark is a word of the code at which it is entered.
 #[tactic(auto, using(crate::proofs::ProperUnits::proper_listed, crate::proofs::Entered::fits_together))]
-pub fn units(alloc: Global, code: &Words<'_>, marks: &[u16]) -> Result<UnitList, CodeError>
+pub fn units(
+    alloc: Global,
+    code: &Words<'_>,
+    marks: &[u16],
+    sealed: bool,
+) -> Result<UnitList, CodeError>
     requires { length code.now ≤ 65535 }
-    ensures ok { IfOk result (λ list. (refusal code.now marks.now ≡ None) × (list ≡ listed code.now marks.now)) }
-    ensures err { IfErr result (λ e. (e ≡ CodeError.NoMemory) ⊎ (refusal code.now marks.now ≡ Some e)) }
+    ensures ok { IfOk result (λ list. (refusal code.now marks.now sealed ≡ None) × (list ≡ listed code.now marks.now sealed)) }
+    ensures err { IfErr result (λ e. (e ≡ CodeError.NoMemory) ⊎ (refusal code.now marks.now sealed ≡ Some e)) }
 
     // What the list is like, and why it is refused, in the words of the conditions.
-    ensures proper { IfOk result (λ list. IsProper list.units) }
+    ensures proper { IfOk result (λ list. IsProper list.units sealed) }
     ensures together { IfOk result (λ list. FitsTogether list marks.now) }
-    ensures first { MatchResult result (λ _. NoneHolds code.now marks.now) (λ e. (e ≡ CodeError.NoMemory) ⊎ IsFirst code.now marks.now e) }
+    ensures first { MatchResult result (λ _. NoneHolds code.now marks.now sealed) (λ e. (e ≡ CodeError.NoMemory) ⊎ IsFirst code.now marks.now sealed e) }
 {
-    listing(alloc, code, marks)
+    listing(alloc, code, marks, sealed)
 }
 
-fn listing(alloc: Global, code: &Words<'_>, marks: &[u16]) -> Result<UnitList, CodeError>
+fn listing(
+    alloc: Global,
+    code: &Words<'_>,
+    marks: &[u16],
+    sealed: bool,
+) -> Result<UnitList, CodeError>
     requires { length code.now ≤ 65535 }
-    ensures ok { IfOk result (λ list. (refusal code.now marks.now ≡ None) × (list ≡ listed code.now marks.now)) }
-    ensures err { IfErr result (λ e. (e ≡ CodeError.NoMemory) ⊎ (refusal code.now marks.now ≡ Some e)) }
+    ensures ok { IfOk result (λ list. (refusal code.now marks.now sealed ≡ None) × (list ≡ listed code.now marks.now sealed)) }
+    ensures err { IfErr result (λ e. (e ≡ CodeError.NoMemory) ⊎ (refusal code.now marks.now sealed ≡ Some e)) }
     ensures sound { IfOk result (λ list. AreSound (items_of code.now)) }
 {
     let items = items_of(alloc, code)?;
@@ -48,7 +58,7 @@ fn listing(alloc: Global, code: &Words<'_>, marks: &[u16]) -> Result<UnitList, C
     if let Some(refusal) = refusal_of_items(&items, &places) {
         return Err(refusal);
     }
-    let units = resolved(alloc, &items, &places)?;
+    let units = resolved(alloc, &items, &places, sealed)?;
     if let Some(refusal) = refusal_of_units(code, &units) {
         return Err(refusal);
     }
@@ -64,14 +74,19 @@ fn listing(alloc: Global, code: &Words<'_>, marks: &[u16]) -> Result<UnitList, C
 }
 
 /// The units of the items, with unit numbers for targets.
-fn resolved(alloc: Global, items: &[Item], places: &[u16]) -> Result<Vec<Unit>, CodeError>
+fn resolved(
+    alloc: Global,
+    items: &[Item],
+    places: &[u16],
+    sealed: bool,
+) -> Result<Vec<Unit>, CodeError>
     requires { AreFirstWords places.now }
-    ensures units { IfOk result (λ units. units.items ≡ filter_map (unit_of places.now) items.now) }
+    ensures units { IfOk result (λ units. units.items ≡ filter_map (unit_of sealed places.now) items.now) }
     ensures memory { IfErr result (λ e. e ≡ CodeError.NoMemory) }
 {
     let mut units = Vec::new(alloc);
     for item in items {
-        if let Some(unit) = unit_of(places, item) {
+        if let Some(unit) = unit_of(places, item, sealed) {
             units.push(unit)?;
         }
     }
@@ -79,12 +94,12 @@ fn resolved(alloc: Global, items: &[Item], places: &[u16]) -> Result<Vec<Unit>, 
 }
 
 /// The unit of an item, if it is one and its target is a unit.
-fn unit_of(places: &[u16], item: &Item) -> Option<Unit>
+fn unit_of(places: &[u16], item: &Item, sealed: bool) -> Option<Unit>
     requires { AreFirstWords places.now }
-    ensures { result ≡ unit_of places.now item.now }
+    ensures { result ≡ unit_of sealed places.now item.now }
 {
     match item.standing {
-        Standing::Part(Piece::Whole(unit)) => Some(unit),
+        Standing::Part(Piece::Whole(unit)) => Some(guarded(sealed, unit)),
         Standing::Part(Piece::Aimed(aim, offset)) => {
             let number = number_reached(places, item.place, offset)?;
             Some(to_unit(aim, number))

@@ -2,16 +2,19 @@
 
 ghost use Rattle.std.specs.Prelude.{◌≡◌};
 ghost use Rattle.unit_code.specs.Lengths.{instruction_length, spelled_length};
+ghost use Rattle.unit_code.specs.Loads.{guarded, is_load, load_where};
 
 use avr_isa::Instr;
 
 /// A unit of a module's code. Targets are unit numbers, counted from 0.
-#[derive(Clone, Copy, PartialEq)]
+#[derive(Clone, Copy)]
 pub enum Unit {
     /// An instruction that runs as it stands.
     Plain(Instr),
     /// A store, which is checked.
     Store(Instr),
+    /// A load of a sealed image, which is checked.
+    Load(Instr),
     /// `PUSH` of a register.
     Push(u8),
     /// `POP` to a register.
@@ -52,6 +55,7 @@ pub fn spelled_len(unit: &Unit, shape: Shape) -> u16
     match unit {
         Unit::Plain(instruction) => instruction_len(instruction),
         Unit::Store(instruction) => 2 + instruction_len(instruction),
+        Unit::Load(instruction) => 2 + instruction_len(instruction),
         Unit::Push(_) | Unit::Pop(_) => 3,
         Unit::SpGroup { with_sreg: false } => 4,
         Unit::SpGroup { with_sreg: true } => 5,
@@ -77,5 +81,39 @@ fn instruction_len(instruction: &Instr) -> u16
     match instruction {
         Instr::Lds(_, _) | Instr::Sts(_, _) | Instr::Jmp(_) | Instr::Call(_) => 2,
         _ => 1,
+    }
+}
+
+/// The unit in an image that is sealed or not: a load is checked exactly in a sealed one.
+pub(crate) fn guarded(sealed: bool, unit: Unit) -> Unit
+    ensures { result ≡ guarded sealed unit }
+{
+    match unit {
+        Unit::Plain(instruction) => load_where(sealed && is_load(&instruction), instruction),
+        Unit::Load(instruction) => load_where(sealed && is_load(&instruction), instruction),
+        _ => unit,
+    }
+}
+
+fn load_where(guarded: bool, instruction: Instr) -> Unit
+    ensures { result ≡ load_where guarded instruction }
+{
+    if guarded {
+        Unit::Load(instruction)
+    } else {
+        Unit::Plain(instruction)
+    }
+}
+
+/// Whether it is LD, LDD or LDS.
+#[tactic(auto, unfolding(crate::specs::Loads::is_load))]
+pub fn is_load(instruction: &Instr) -> bool
+    ensures { result ≡ is_load instruction.now }
+{
+    match instruction {
+        Instr::LdX(_) | Instr::LdXInc(_) | Instr::LdXDec(_) | Instr::Lds(_, _) => true,
+        Instr::LddY(_, _) | Instr::LdYInc(_) | Instr::LdYDec(_) => true,
+        Instr::LddZ(_, _) | Instr::LdZInc(_) | Instr::LdZDec(_) => true,
+        _ => false,
     }
 }

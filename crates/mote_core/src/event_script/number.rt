@@ -25,7 +25,7 @@ fn is_number(text: &[u8]) -> bool
 
 // The value of a number.
 fn value_of(text: &[u8]) -> u64
-    requires few { length text.now ≤ 10 }
+    requires few { length text.now ≤ MOST_DIGITS }
     requires digits { IsTrue (list_all is_digit text.now) }
     ensures { result ≡ value_of text.now }
 {

@@ -1,6 +1,7 @@
 use Rattle.std.proofs.Common.{◌≡◌, ◌<◌, ◌≤◌, length, sym, arith}
 use Rattle.std.proofs.lemmas.Bool.Decides.{nat_tests}
 use Rattle.mote_layout.specs.Limits.{event_limit}
+use Rattle.domain_model.proofs.ScriptLaws.{script_times}
 use Rattle.mote_core.proofs.ScriptSteps.{so_far-blank, so_far-event, none-unended, none-line, none-order, few, too_many}
 use Rattle.mote_core.proofs.event_script.parse_script.Goals as goal
 
@@ -21,7 +22,7 @@ returns-then-event-before-clause-events c = sym (none-order _ _ _ _ _ _ _ _ c.lo
 pub loop-rest-preserved : goal.loop-rest-preserved
 loop-rest-preserved c =
     rw c.in_ok-push.ensures.items
-    (so_far-event _ _ _ _ _ _ _ _ c.loop-rest.invariant c.in-Some.ensures (cc) (sym c.in-Some-event_of.ensures.event) c.if-event-before.false c.in-Some-event_of.ensures.time)
+    (so_far-event _ _ _ _ _ _ _ _ c.loop-rest.invariant c.in-Some.ensures (cc) (sym c.in-Some-event_of.ensures.event) c.if-event-before.false)
 
 pub returns-then-len-gt-EVENTS-clause-events : goal.returns-then-len-gt-EVENTS-clause-events
 returns-then-len-gt-EVENTS-clause-events c =
@@ -34,3 +35,9 @@ returns-clause-events c =
     let none : length c.loop-rest.rest.now ≡ 0 = grind (arith, nat_tests) in
     let some : length c.loop-rest.events.items ≤ event_limit = omega arith in
     sym (few _ _ _ _ _ c.loop-rest.invariant none some)
+
+pub returns-clause-times : goal.returns-clause-times
+returns-clause-times c =
+    let none : length c.loop-rest.rest.now ≡ 0 = grind (arith, nat_tests) in
+    let some : length c.loop-rest.events.items ≤ event_limit = omega arith in
+    script_times c.args.text.now c.args.images c.loop-rest.events.items (few _ _ _ _ _ c.loop-rest.invariant none some)

@@ -1,8 +1,7 @@
 use Rattle.std.proofs.Common.{◌∙◌, ◌<◌, sym, ap, subst, length}
-use Rattle.mote_base.specs.Messages.{Lists, in_order}
+use Rattle.mote_base.specs.Messages.{Lists, in_order, unnamed}
 use Rattle.domain_model.specs.State.{Message}
-use Rattle.domain_model.specs.Turn.{unnamed}
-use Rattle.mote_core.proofs.Named.{unnamed-without, unnamed-none, without-none, fewer}
+use Rattle.mote_base.proofs.Named.{unnamed-without, unnamed-none, without-none, fewer}
 use Rattle.mote_core.proofs.kernel_call.remove_named.Goals as goal
 
 pub returns-in-None : goal.returns-in-None

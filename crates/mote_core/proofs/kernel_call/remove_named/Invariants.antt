@@ -1,6 +1,5 @@
 use Rattle.std.proofs.Common.{◌≡◌, length}
-use Rattle.mote_base.specs.Messages.{in_order}
-use Rattle.domain_model.specs.Turn.{unnamed}
+use Rattle.mote_base.specs.Messages.{in_order, unnamed}
 use Rattle.mote_core.proofs.kernel_call.remove_named.Given as goal
 
 -- the messages of others are the same

@@ -1,12 +1,13 @@
 use Rattle.std.proofs.Common.{◌≡◌, ◌∙◌, sym, ap, subst, inl, inr, arith, not, ℕ, true}
 use Rattle.std.proofs.lemmas.Bool.{cases_eq}
+use Rattle.mote_layout.specs.Memory.{domain_count}
 use Rattle.domain_model.specs.Turn.{in_use}
 use Rattle.mote_core.proofs.Least.{least_of-at, least_of-none}
 use Rattle.mote_core.proofs.modules.first_free.Goals as goal
 
 pub returns-then-not-in_use : goal.returns-then-not-in_use
 returns-then-not-in_use c =
-    sym (least_of-at (λ domain. not (in_use c.args.modules.now domain)) 0 7 c.loop-domain.domain (omega arith) (omega arith)
+    sym (least_of-at (λ domain. not (in_use c.args.modules.now domain)) 0 domain_count c.loop-domain.domain (omega arith) (omega arith)
     (ap not (sym c.in_use.ensures ∙ c.if-not-in_use.true)) (λ j from below. ap not (c.loop-domain.invariant j below)))
 
 pub loop-domain-preserved : goal.loop-domain-preserved
@@ -18,5 +19,5 @@ loop-domain-preserved c = λ lower below.
 
 pub returns : goal.returns
 returns c =
-    sym (least_of-none (λ domain. not (in_use c.args.modules.now domain)) 0 7
+    sym (least_of-none (λ domain. not (in_use c.args.modules.now domain)) 0 domain_count
     (λ j from within. ap not (c.loop-domain.invariant j (omega arith))))

@@ -1,5 +1,6 @@
 use Rattle.std.proofs.Common.{ℕ, inl, inr, subst, sym, ◌∙◌, arith}
 use Rattle.std.proofs.lemmas.Bool.{cases_lt, cases_eq}
+use Rattle.mote_layout.specs.Memory.{block_count}
 use Rattle.mote_layout.specs.Blocks.{Fits}
 use Rattle.mote_layout.proofs.LeastFit.{fit-some, fit-none, fits-true}
 use Rattle.mote_core.proofs.sos_heap.fit.Goals as goal
@@ -25,7 +26,7 @@ loop-first-preserved c =
 pub returns : goal.returns
 returns c =
     sym ((fit-none c.args.segments.now c.args.count c.requires).1 (λ first fit.
-    elim (cases_lt first 384) [
+    elim (cases_lt first block_count) [
       | inl below ↦ c.loop-first.invariant first (omega arith) fit
       | inr above ↦ absurd (omega (arith, fit.0))
     ]))

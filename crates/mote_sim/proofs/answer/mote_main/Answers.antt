@@ -1,27 +1,38 @@
+use Rattle.std.proofs.Common.{subst}
+use Rattle.domain_model.specs.Command.{command_of}
+use Rattle.mote_sim.specs.Asking.{AsksBy}
 use Rattle.mote_sim.proofs.Clauses.{headline, listing, usage, refused, complete, answered, front, cut}
 use Rattle.mote_sim.proofs.Counts.{has_its_files}
 use Rattle.mote_sim.proofs.answer.mote_main.Goals as goal
 
 pub returns-clause-headline : goal.returns-clause-headline
-returns-clause-headline g c = headline _ _ _ _ _ _ _ _ _ _ (has_its_files c.args.words.now) c.answer.ensures.ends
+returns-clause-headline g c = headline _ _ _ _ _ _ _ _ _ _ _ (has_its_files c.args.words.now) c.answer.ensures.ends
 
 pub returns-clause-listing : goal.returns-clause-listing
-returns-clause-listing g c = listing _ _ _ _ _ _ _ _ _ _ (has_its_files c.args.words.now) c.answer.ensures.ends
+returns-clause-listing g c = listing _ _ _ _ _ _ _ _ _ _ _ (has_its_files c.args.words.now) c.answer.ensures.ends
 
 pub returns-clause-usage : goal.returns-clause-usage
-returns-clause-usage g c = usage _ _ _ _ _ _ _ _ _ _ c.answer.ensures.ends
+returns-clause-usage g c = usage _ _ _ _ _ _ _ _ _ _ _ c.answer.ensures.ends
 
 pub returns-clause-refused : goal.returns-clause-refused
-returns-clause-refused g c = refused _ _ _ _ _ _ _ _ _ _ c.answer.ensures.ends
+returns-clause-refused g c = refused _ _ _ _ _ _ _ _ _ _ _ c.answer.ensures.ends
 
 pub returns-clause-complete : goal.returns-clause-complete
-returns-clause-complete g c = complete _ _ _ _ _ _ _ _ _ _ c.answer.ensures.ends
+returns-clause-complete g c = complete _ _ _ _ _ _ _ _ _ _ _ c.answer.ensures.ends
 
 pub returns-clause-answered : goal.returns-clause-answered
 returns-clause-answered g c = answered _ _ _ _ _ _ _ _ _ c.answer.ensures.ends
 
 pub returns-clause-front : goal.returns-clause-front
-returns-clause-front g c = front _ _ _ _ _ _ _ _ _ _ c.answer.ensures.ends
+returns-clause-front g c = front _ _ _ _ _ _ _ _ _ _ _ c.answer.ensures.ends
 
 pub returns-clause-cut : goal.returns-clause-cut
 returns-clause-cut g c = cut _ _ _ _ _ _ _ _ _ c.answer.ensures.ends
+
+pub returns-clause-failed_call : goal.returns-clause-failed_call
+returns-clause-failed_call g c = λ is.
+    subst (λ s. AsksBy g.F.Shelf.leads c.args.shelf.now c.answer.new.shelf (command_of c.args.words.now) s) is c.answer.ensures.asks
+
+pub returns-clause-no_failed_call : goal.returns-clause-no_failed_call
+returns-clause-no_failed_call g c = λ is.
+    subst (λ s. AsksBy g.F.Shelf.leads c.args.shelf.now c.answer.new.shelf (command_of c.args.words.now) s) is c.answer.ensures.asks

@@ -6,7 +6,7 @@ use Rattle.mote_sim.proofs.one_line.put_answer.Goals as goal
 pub returns-in-Ok-clause-ends : goal.returns-in-Ok-clause-ends
 returns-in-Ok-clause-ends g c =
     let e = c.in-Ok.ensures in
-    ends_wrote _ _ _ _ _ _ c.args.line.now c.args.status c.requires (refl, refl) (wrote_one e.ok e.cause.kept e.leads)
+    ends_wrote _ _ _ _ _ _ c.args.line.now c.args.status c.requires.answer (refl, refl) (wrote_one e.ok e.cause.kept (c.requires.some, e.leads))
 
 pub returns-in-Err-clause-ends : goal.returns-in-Err-clause-ends
 returns-in-Err-clause-ends g c =
@@ -15,6 +15,6 @@ returns-in-Err-clause-ends g c =
       status = c.args.status;
       text = c.args.line.now;
       answer = (refl, refl);
-      broke = broke_one e.partly e.cause.later e.cause.failed e.leads;
+      broke = broke_one e.partly e.cause.later e.cause.failed (c.requires.some, e.leads);
       calm = refl;
     }

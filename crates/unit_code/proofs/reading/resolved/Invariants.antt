@@ -5,4 +5,4 @@ use Rattle.unit_code.proofs.reading.resolved.Given as goal
 
 -- the units so far, and those of what is left
 abbrev pub invariant-loop-item : goal.invariant-loop-item
-invariant-loop-item l = l.units.items ++ filter_map (unit_of l.places) (drop l.item-index l.items) ≡ filter_map (unit_of l.places) l.items
+invariant-loop-item l = l.units.items ++ filter_map (unit_of l.fn.sealed l.places) (drop l.item-index l.items) ≡ filter_map (unit_of l.fn.sealed l.places) l.items

@@ -7,4 +7,5 @@ pub returns-clause-first : goal.returns-clause-first
 returns-clause-first c =
     let words = c.args.code.now in
     let marks = c.args.marks.now in
-    first_told words marks c.listing.result (λ list. list ≡ listed words marks) c.requires c.listing.ensures.ok c.listing.ensures.err
+    let sealed = c.args.sealed in
+    first_told words marks sealed c.listing.result (λ list. list ≡ listed words marks sealed) c.requires c.listing.ensures.ok c.listing.ensures.err

@@ -18,8 +18,11 @@ overflow_add-i c = omega (arith, ap length c.self.view_is, length-words_of c.sel
 pub bounds-bytes-i-2 : goal.bounds-bytes-i-2
 bounds-bytes-i-2 c = omega (arith, ap length c.self.view_is, length-words_of c.self.inside.bytes.now)
 
-pub returns : goal.returns
-returns c =
+pub returns-clause-word : goal.returns-clause-word
+returns-clause-word c =
     let below : c.args.i < length (words_of c.self.inside.bytes.now) = rw c.self.view_is c.requires in
     let worth = get_or-words_of c.self.inside.bytes.now c.args.i below in
     rw (← c.self.view_is, worth) (omega arith)
+
+pub returns-clause-words : goal.returns-clause-words
+returns-clause-words c = rw (← c.self.view_is) c.self.invariant.1

@@ -7,9 +7,9 @@ use Rattle.mote_core.proofs.mote.Mote.turn.Goals as goal
 pub returns-clause-lawful : goal.returns-clause-lawful
 returns-clause-lawful c =
     turns_are_lawful c.args.self.now c.take.new.self c.take.new.lines c.choose-next.ensures.good
-    (turn_of c.choose-next.result c.args.self.now c.take.new.self c.take.new.lines (sym c.choose-next.ensures.next) c.take.ensures.state c.take.ensures.lines)
+    (turn_of c.choose-next.result c.args.self.now c.take.new.self c.take.new.lines c.choose-next.ensures.good (sym c.choose-next.ensures.next) c.take.ensures.state c.take.ensures.lines)
 
 pub returns-clause-fewer : goal.returns-clause-fewer
 returns-clause-fewer c = λ live.
     remaining_falls c.args.self.now c.take.new.self c.take.new.lines c.choose-next.ensures.good live
-    (turn_of c.choose-next.result c.args.self.now c.take.new.self c.take.new.lines (sym c.choose-next.ensures.next) c.take.ensures.state c.take.ensures.lines)
+    (turn_of c.choose-next.result c.args.self.now c.take.new.self c.take.new.lines c.choose-next.ensures.good (sym c.choose-next.ensures.next) c.take.ensures.state c.take.ensures.lines)

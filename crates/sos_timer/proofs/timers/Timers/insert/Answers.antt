@@ -25,8 +25,8 @@ invariant_of-self c =
     let room : length ts < timer_limit = rw c.self.view_is c.requires in
     rw new (order-inserted c.args.timer ts c.self.invariant.0, omega (arith, length-inserted c.args.timer ts, room))
 
-pub returns : goal.returns
-returns c =
+pub returns-clause-timers : goal.returns-clause-timers
+returns-clause-timers c =
     let before = λ (s : Timer). fires_before s c.args.timer in
     let ts = c.self.inside.timers.items in
     let at : c.count_before-place.result ≡ prefix_len before ts = c.count_before-place.ensures ∙ ap (prefix_len before) c.as_slice.ensures.value in

@@ -1,0 +1,9 @@
+//! Tests of the crates that read and write modules: of their public calls alone.
+#![tactic(auto)]
+
+#[cfg(test)]
+mod image;
+#[cfg(test)]
+mod lines;
+#[cfg(test)]
+mod units;

@@ -1,0 +1,16 @@
+//! Tests of the public calls of the machine of domains, the mote and the program.
+//!
+//! - `rows`: runs and listings of `mote_sim`'s top call, with their faults and limits.
+//! - `turns`: turns of a mote of `mote_core` under small limits.
+//! - `scripts`: the events of a script.
+//! - `lines`: the lines that `domain_model` keeps of a turn.
+#![tactic(auto)]
+
+#[cfg(test)]
+mod lines;
+#[cfg(test)]
+mod rows;
+#[cfg(test)]
+mod scripts;
+#[cfg(test)]
+mod turns;
