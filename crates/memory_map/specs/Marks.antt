@@ -1,5 +1,5 @@
--- How a map keeps its segments: one byte a block, with its owner in the lowest four bits, a bit that says that a segment
--- starts with it, and a bit that says that it is used. The byte of a free block is 0.
+-- How a map keeps its segments: one byte a block, with its owner in the lowest four bits, a bit that says that a
+-- segment starts with it, and a bit that says that it is used. The byte of a free block is 0.
 use Rattle.std.specs.Prelude.{◌≡◌, ℕ, suc, ◌+◌, ◌%◌, ◌≤◌, ◌<◌, ◌⊎◌, ◌==◌, ◌&&◌, Bool, true, false, nat_le, nat_lt, List, [], ◌∷◌, length, get_or, Option, None, Some, if◌then◌else◌}
 use Rattle.mote_layout.specs.Memory.{block_count, heap_start, heap_end, kernel}
 use Rattle.mote_layout.specs.Blocks.{AreBlocks, block_of}
@@ -85,4 +85,5 @@ pub record StandsIn (bytes : List ℕ) (s : Segment) : Type 0 where
 abbrev pub Tells : List ℕ → ℕ → Option Segment → Type 0
 Tells bytes address None = (address < heap_start) ⊎ ((heap_end < address) ⊎ (get_or bytes (block_of address) 0 ≡ 0))
 Tells bytes address (Some s) =
-    (heap_start ≤ address) × (address ≤ heap_end) × (s.first ≤ block_of address) × (block_of address < s.first + s.count) × StandsIn bytes s
+    (heap_start ≤ address) × (address ≤ heap_end)
+    × (s.first ≤ block_of address) × (block_of address < s.first + s.count) × StandsIn bytes s

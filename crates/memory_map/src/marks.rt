@@ -97,7 +97,8 @@ fn start_of(bytes: &[u8; MARKS], block: usize) -> usize
     requires size { length bytes.now ≡ block_count }
     requires within { block < BLOCKS }
     ensures within { result ≤ block }
-    ensures start { (s : Segment) → StandsIn bytes.now s → s.first ≤ block → block < s.first + s.count → result ≡ s.first }
+    ensures start { (s : Segment) → StandsIn bytes.now s → s.first ≤ block → block < s.first + s.count
+        → result ≡ s.first }
 {
     let mut first = block;
     while 0 < first && is_further(bytes[first]) {

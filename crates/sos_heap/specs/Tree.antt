@@ -1,5 +1,6 @@
--- The index of holes: a tree over the blocks, as an array. The root is node 1, the halves of node i are the nodes 2 * i and
--- 2 * i + 1, and each block has a leaf. There are more leaves than blocks, and the blocks beyond the heap are not free.
+-- The index of holes: a tree over the blocks, as an array. The root is node 1, the halves of node i are the nodes
+-- 2 * i and 2 * i + 1, and each block has a leaf. There are more leaves than blocks, and the blocks beyond the heap
+-- are not free.
 use Rattle.std.specs.Prelude.{◌≡◌, ℕ, ◌+◌, ◌*◌, ◌≤◌, ◌<◌, ◌⊎◌, ◌&&◌, Bool, nat_le, nat_lt, if◌then◌else◌, List, length, get_or, Option, None, Some}
 use Rattle.mote_layout.specs.Blocks.{AreBlocks}
 use Rattle.mote_layout.specs.Fit.{fits}
@@ -18,12 +19,13 @@ node_count = 1024
 abbrev pub node : List Runs → ℕ → Runs
 node nodes i = get_or nodes i (record { width = 0; left = 0; right = 0; longest = 0 })
 
--- The nodes are a tree over a test of free blocks: each leaf is that of its block, and each inner node is the join of its
--- halves, but for the open nodes, those from `low` on, below `end`.
+-- The nodes are a tree over a test of free blocks: each leaf is that of its block, and each inner node is the join of
+-- its halves, but for the open nodes, those from `low` on, below `end`.
 pub record IsTree (free : ℕ → Bool) (nodes : List Runs) (low end : ℕ) : Type 0 where
   pub size : length nodes ≡ node_count
   pub leaves : (block : ℕ) → block < leaf_count → node nodes (leaf_count + block) ≡ leaf (free block)
-  pub joins : (i : ℕ) → 1 ≤ i → i < leaf_count → (i < low) ⊎ (end ≤ i) → node nodes i ≡ joined (node nodes (2 * i)) (node nodes (2 * i + 1))
+  pub joins : (i : ℕ) → 1 ≤ i → i < leaf_count → (i < low) ⊎ (end ≤ i)
+      → node nodes i ≡ joined (node nodes (2 * i)) (node nodes (2 * i + 1))
 
 -- the test of free blocks that the leaves give
 abbrev pub free_at : List Runs → ℕ → Bool

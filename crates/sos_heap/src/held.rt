@@ -30,7 +30,8 @@ pub fn beginning_at(blocks: &Blocks, a: u16) -> Option<Segment>
 
 /// The segment of a domain that begins at an address.
 pub fn held(blocks: &Blocks, d: u8, a: u16) -> Result<Segment, NotOwner>
-    ensures held { MatchResult result (λ s. (beginning_at blocks.now a ≡ Some s) × (s.owner ≡ d)) (λ _. ¬ Holds blocks.now d a) }
+    ensures held { MatchResult result (λ s. (beginning_at blocks.now a ≡ Some s) × (s.owner ≡ d))
+        (λ _. ¬ Holds blocks.now d a) }
     ensures blocks { AreBlocks blocks.now }
 {
     match beginning_at(blocks, a) {
@@ -41,7 +42,8 @@ pub fn held(blocks: &Blocks, d: u8, a: u16) -> Result<Segment, NotOwner>
 
 /// The segment of a domain that begins at an address and has at least `len` bytes.
 pub fn held_bytes(blocks: &Blocks, d: u8, a: u16, len: u16) -> Result<Segment, NotOwner>
-    ensures held { IfOk result (λ s. (beginning_at blocks.now a ≡ Some s) × (s.owner ≡ d) × (len ≤ block_bytes * s.count)) }
+    ensures held { IfOk result (λ s.
+        (beginning_at blocks.now a ≡ Some s) × (s.owner ≡ d) × (len ≤ block_bytes * s.count)) }
     ensures refused { IsErr result ↔ (¬ HoldsBytes blocks.now d a len) }
     ensures blocks { AreBlocks blocks.now }
 {
