@@ -2,7 +2,8 @@
 //!
 //! - `rows`: runs and listings of `mote_sim`'s top call, with their faults and limits.
 //! - `turns`: turns of a mote of `mote_core` under small limits.
-//! - `scripts`: the events of a script.
+//! - `scripts`: the events of a script of `event_script`, and what refuses it.
+//! - `traces`: the text of each line of a trace of `trace_text`.
 //! - `lines`: the lines that `domain_model` keeps of a turn.
 #![tactic(auto)]
 
@@ -12,5 +13,7 @@ mod lines;
 mod rows;
 #[cfg(test)]
 mod scripts;
+#[cfg(test)]
+mod traces;
 #[cfg(test)]
 mod turns;

@@ -98,6 +98,12 @@ const RETURNS: &[&[u8]] = &[
 
 const LOAD: &str = "0 load 0\n";
 
+/// Module 1 of the second version, sealed, reads a byte: 9180 0300 9508.
+const SEALED: &[u8] = b"SOSM\x02\x01\x02\0\0\0\0\0\0\x03\0\0\0\x80\x91\0\x03\x08\x95";
+
+/// The same module without the seal.
+const UNSEALED: &[u8] = b"SOSM\x02\x01\0\0\0\0\0\0\0\x03\0\0\0\x80\x91\0\x03\x08\x95";
+
 const SAID: &str = "0 load 1 0 0000\n0 run 1 0 0\n1 say 1 65\n2 done 1\n3 end idle\n";
 
 const LISTED: &str = "0 0000 ldi r24,65\n1 0001 kcall 8\n2 0003 ret\n";
@@ -220,6 +226,76 @@ const RUNS: &[Row] = &[
         images: &[SAYS],
         status: Status::Usage,
         text: "mote: usage\n",
+    },
+    Row {
+        words: "run s a",
+        script: "5 dump\n4 dump\n",
+        images: &[SAYS],
+        status: Status::Refused,
+        text: "refused script 2 2\n",
+    },
+    Row {
+        words: "run s a",
+        script: "0 load 1\n",
+        images: &[SAYS],
+        status: Status::Refused,
+        text: "refused script 3 1\n",
+    },
+    Row {
+        words: "run s a",
+        script: "# one\n01 dump\n",
+        images: &[SAYS],
+        status: Status::Refused,
+        text: "refused script 1 2\n",
+    },
+    Row {
+        words: "run s a",
+        script: "x",
+        images: &[UNBUILT],
+        status: Status::Refused,
+        text: "refused script 1 1\n",
+    },
+    Row {
+        words: "run s a",
+        script: "0 load 0\n5 dump\n",
+        images: &[SAYS],
+        status: Status::Refused,
+        text: "refused unbuilt\n",
+    },
+    Row {
+        words: "run s a",
+        script: "0 load 0\n5 radio 1 7 -\n",
+        images: &[SAYS],
+        status: Status::Refused,
+        text: "refused unbuilt\n",
+    },
+    Row {
+        words: "run s a",
+        script: LOAD,
+        images: &[SEALED],
+        status: Status::Refused,
+        text: "refused unbuilt\n",
+    },
+    Row {
+        words: "run s a",
+        script: LOAD,
+        images: &[UNSEALED],
+        status: Status::Refused,
+        text: "refused unbuilt\n",
+    },
+    Row {
+        words: "list a",
+        script: "",
+        images: &[SEALED],
+        status: Status::Done,
+        text: "0 0000 lds r24,0x0300\n1 0002 ret\n",
+    },
+    Row {
+        words: "list a",
+        script: "",
+        images: &[UNSEALED],
+        status: Status::Done,
+        text: "0 0000 lds r24,0x0300\n1 0002 ret\n",
     },
     Row {
         words: "run s a",
@@ -611,7 +687,7 @@ fn size_comes_before_the_image(rt: HostRuntime) -> Result<(), Fail> {
 fn sizes_are_tested_in_order(rt: HostRuntime) -> Result<(), Fail> {
     let alloc = rt.alloc();
     let rows = [
-        (1_048_576usize, 65_536usize, "refused unbuilt\n"),
+        (1_048_576usize, 65_536usize, "refused script 1 1\n"),
         (1_048_577, 65_537, "refused size 0\n"),
         (1_048_576, 65_537, "refused size 2\n"),
     ];

@@ -1,64 +1,122 @@
-//! Scripts and their events, written by hand.
+//! Scripts: their events, and what refuses them. The rows are written by hand from the script's grammar.
 
-use domain_model::{LoaderEvent, LoaderOrder};
-use mote_core::parse_script;
+use domain_model::{Event, What};
+use event_script::{ScriptError, parse_script};
 use std::test::Fail;
 
-const FIRST: &[LoaderEvent] = &[LoaderEvent {
-    time: 0,
-    what: LoaderOrder::Load(0),
-}];
+/// An event as plain values: its time, its verb, the two numbers that follow, and the bytes of a packet.
+type Told<'a> = (u64, &'static str, u8, u8, &'a [u8]);
 
-const LAST: &[LoaderEvent] = &[LoaderEvent {
-    time: 4_294_967_295,
-    what: LoaderOrder::Unload(254),
-}];
-
-const TWO: &[LoaderEvent] = &[
-    LoaderEvent {
-        time: 5,
-        what: LoaderOrder::Load(1),
-    },
-    LoaderEvent {
-        time: 5,
-        what: LoaderOrder::Unload(10),
-    },
-];
+fn told(event: &Event) -> Told<'_> {
+    match &event.what {
+        What::Load(image) => (event.time, "load", *image, 0, &[]),
+        What::Unload(id) => (event.time, "unload", *id, 0, &[]),
+        What::Radio { to, sort, bytes } => (event.time, "radio", *to, *sort, bytes.as_slice()),
+        What::Dump => (event.time, "dump", 0, 0, &[]),
+    }
+}
 
 #[test]
 fn scripts_are_their_events(rt: HostRuntime) -> Result<(), Fail> {
-    let rows = [
-        ("", 1, Some([].as_slice())),
-        ("\n# load 7\n#\n", 1, Some([].as_slice())),
-        ("0 load 0\n", 1, Some(FIRST)),
-        ("# one\n\n5 load 1\n\n5 unload 10\n", 2, Some(TWO)),
-        ("4294967295 unload 254\n", 0, Some(LAST)),
-        ("4294967296 unload 254\n", 0, None),
-        ("4294967296 load 0\n", 1, None),
-        ("5 load 0\n4 load 0\n", 1, None),
-        ("01 load 0\n", 1, None),
-        ("0 load 00\n", 1, None),
-        ("0  load 0\n", 1, None),
-        ("0 load 0 \n", 1, None),
-        ("0 load\n", 1, None),
-        ("0 send 0\n", 1, None),
-        ("0 load 0", 1, None),
-        ("0 load 0\n# end", 1, None),
-        ("0 load 1\n", 1, None),
-        ("0 unload 0\n", 1, None),
-        ("0 unload 255\n", 1, None),
+    let rows: &[(&str, usize, &[Told<'static>])] = &[
+        ("", 1, &[]),
+        ("\n# load 7\n#\n", 1, &[]),
+        ("0 load 0\n", 1, &[(0, "load", 0, 0, &[])]),
+        (
+            "# one\n\n5 load 1\n\n5 unload 10\n",
+            2,
+            &[(5, "load", 1, 0, &[]), (5, "unload", 10, 0, &[])],
+        ),
+        (
+            "4294967295 unload 254\n",
+            0,
+            &[(4_294_967_295, "unload", 254, 0, &[])],
+        ),
+        (
+            "5 radio 1 7 aabb\n5 radio 254 255 -\n9 dump\n",
+            0,
+            &[
+                (5, "radio", 1, 7, &[0xAA, 0xBB]),
+                (5, "radio", 254, 255, &[]),
+                (9, "dump", 0, 0, &[]),
+            ],
+        ),
     ];
     for (text, images, events) in rows {
-        let found = parse_script(rt.alloc(), text.as_bytes(), images)?;
-        assert_eq!(rt; found.is_some(), events.is_some(), "{text}");
-        let Some(mut script) = found else {
-            continue;
-        };
-        for event in events.unwrap_or_default() {
-            assert_eq!(rt; script.first(), Some(*event), "{text}");
-            script.pass();
+        let script = parse_script(rt.alloc(), text.as_bytes(), *images)?;
+        assert_eq!(rt; script.events.len(), events.len(), "{text}");
+        for (event, row) in script.events.iter().zip(events.iter()) {
+            assert!(rt; told(event) == *row, "{text}");
         }
-        assert_eq!(rt; script.first(), None, "{text}");
     }
+    Ok(())
+}
+
+#[test]
+fn bad_scripts_are_refused(rt: HostRuntime) -> Result<(), Fail> {
+    let rows = [
+        ("01 dump\n", 1, ScriptError::Line(1)),
+        ("0 dump", 1, ScriptError::Line(1)),
+        ("0 dump\n# end", 1, ScriptError::Line(2)),
+        ("5 dump\n4 dump\n", 1, ScriptError::Order(2)),
+        ("0 load 1\n", 1, ScriptError::ImageIndex(1)),
+        ("#\n5 dump\n4 load 9\n", 1, ScriptError::Order(3)),
+        ("0 dump\n0 load 1\n0 x\n", 1, ScriptError::ImageIndex(2)),
+        ("4294967296 dump\n", 1, ScriptError::Line(1)),
+        ("0 load 256\n", 1, ScriptError::Line(1)),
+        ("0 load 00\n", 1, ScriptError::Line(1)),
+        ("0 load -\n", 1, ScriptError::Line(1)),
+        ("0 load\n", 1, ScriptError::Line(1)),
+        ("0 unload 0\n", 1, ScriptError::Line(1)),
+        ("0 unload 255\n", 1, ScriptError::Line(1)),
+        ("0 radio 0 7 -\n", 1, ScriptError::Line(1)),
+        ("0 radio 255 7 -\n", 1, ScriptError::Line(1)),
+        ("0 radio 1 256 -\n", 1, ScriptError::Line(1)),
+        ("0 radio 1 7\n", 1, ScriptError::Line(1)),
+        ("0 radio 1 7 \n", 1, ScriptError::Line(1)),
+        ("0 radio 1 7 abc\n", 1, ScriptError::Line(1)),
+        ("0 radio 1 7 AB\n", 1, ScriptError::Line(1)),
+        ("0 radio 1 7 ab cd\n", 1, ScriptError::Line(1)),
+        ("0  dump\n", 1, ScriptError::Line(1)),
+        ("0 dump \n", 1, ScriptError::Line(1)),
+        ("0 dump\r\n", 1, ScriptError::Line(1)),
+        (" 0 dump\n", 1, ScriptError::Line(1)),
+        ("0 send 0\n", 1, ScriptError::Line(1)),
+    ];
+    for (text, images, refusal) in rows {
+        let found = parse_script(rt.alloc(), text.as_bytes(), images);
+        assert_eq!(rt; found.err(), Some(refusal), "{text}");
+    }
+    Ok(())
+}
+
+#[test]
+fn packets_have_at_most_96_bytes(rt: HostRuntime) -> Result<(), Fail> {
+    let alloc = rt.alloc();
+    for (pairs, accepted) in [(1u8, true), (96, true), (97, false)] {
+        let mut text = Vec::new(alloc);
+        text.extend_from_slice(b"0 radio 1 7 ")?;
+        for _ in 0..pairs {
+            text.extend_from_slice(b"0f")?;
+        }
+        text.push(b'\n')?;
+        let found = parse_script(alloc, text.as_slice(), 1);
+        assert_eq!(rt; found.is_ok(), accepted, "{pairs}");
+    }
+    Ok(())
+}
+
+#[test]
+fn a_script_has_at_most_65536_events(rt: HostRuntime) -> Result<(), Fail> {
+    let alloc = rt.alloc();
+    let mut text = Vec::new(alloc);
+    for _ in 0..65_536u32 {
+        text.extend_from_slice(b"0 dump\n")?;
+    }
+    let script = parse_script(alloc, text.as_slice(), 1)?;
+    assert_eq!(rt; script.events.len(), 65_536);
+    text.extend_from_slice(b"0 dump\n")?;
+    let refused = parse_script(alloc, text.as_slice(), 1);
+    assert_eq!(rt; refused.err(), Some(ScriptError::TooMany(65_537)));
     Ok(())
 }
