@@ -18,12 +18,12 @@ fn words_stand_low_byte_first(rt: HostRuntime) -> Result<(), Fail> {
 
 #[test]
 fn statuses_have_their_numbers(rt: HostRuntime) {
-    assert_eq!(rt; Status::Done as u8, 0);
-    assert_eq!(rt; Status::Usage as u8, 2);
-    assert_eq!(rt; Status::Refused as u8, 3);
-    assert_eq!(rt; Status::ReadFault as u8, 4);
-    assert_eq!(rt; Status::WriteFault as u8, 5);
-    assert_eq!(rt; Status::NoMemory as u8, 6);
+    assert_eq!(rt; Status::Done.code(), 0);
+    assert_eq!(rt; Status::Usage.code(), 2);
+    assert_eq!(rt; Status::Refused.code(), 3);
+    assert_eq!(rt; Status::ReadFault.code(), 4);
+    assert_eq!(rt; Status::WriteFault.code(), 5);
+    assert_eq!(rt; Status::NoMemory.code(), 6);
 }
 
 #[test]
