@@ -7,7 +7,7 @@
 //! - `State`: the processor, the kernel's lists, the units of the loaded modules, and what is still to come.
 //! - `Units`: the units that can run. `Prepared`: what the file of an image comes to. `Files`: what such a file is, in
 //!   the words of images and of code. `Loader`: which events of a script are for the loader. `Command`: what the words of the command line mean.
-//! - `Act`: what one unit does. `Free`: the bytes whose values a run leaves open.
+//! - `Act`: what one unit does, its instruction by the effect that `avr_machine` gives it. `Free`: the bytes whose values a run leaves open.
 //! - `Turn`: which turn comes next, what it does, and the runs of turns.
 //! - `Good`: what every turn keeps. `Facts`: what each choice of a turn says of the state. `Remaining`: how many
 //!   turns may still come. `Laws`: what holds of each turn of each run.
