@@ -258,7 +258,7 @@ fn say(run: &Running, k: &mut Kernel, lines: &mut Lines)
 }
 
 // A load of a constant, or a copy of a register.
-#[tactic(auto, using(domain_model::proofs::InstructionLaws::ldi_effect, domain_model::proofs::InstructionLaws::mov_effect))]
+#[tactic(auto, using(domain_model::proofs::InstructionLaws::plain_effects))]
 fn plain(k: &mut Kernel, instruction: &Instr)
     requires { IsBuilt (Unit.Plain instruction.now) }
     ensures { k.new ≡ with_processor k.old (plain_effect instruction.now k.old.processor) }
