@@ -1,5 +1,5 @@
 -- What one unit does: it changes the processor and the queues alone, keeps the stack pointer, and leaves a next unit.
-use Rattle.std.proofs.Common.{◌≡◌, ℕ, zero, suc, ◌+◌, ◌<◌, ◌≤◌, inl, inr, ◌==◌, ◌&&◌, nat_lt, nat_le, List, [], ◌∷◌, ◌++◌, length, Bool, true, false, refl, subst, arith, Option, Some, None, slice_get}
+use Rattle.std.proofs.Common.{◌≡◌, ℕ, zero, suc, ◌+◌, ◌<◌, ◌≤◌, inl, inr, ◌==◌, ◌&&◌, nat_lt, nat_le, List, [], ◌∷◌, ◌++◌, length, Bool, true, false, refl, sym, ap, subst, arith, Option, Some, None, slice_get}
 use Rattle.std.specs.List.{Contains}
 use Rattle.std.proofs.lemmas.Bool.{cond_both, or_cases, and_parts, ltb-true, leb-true}
 use Rattle.std.proofs.lemmas.List.{length-set, length-append}
@@ -12,11 +12,12 @@ use Rattle.unit_code.specs.declared.unit.Unit.{Unit}
 use Rattle.unit_code.specs.declared.unit.Unit.TheVariants.{Plain, Store, KernelCall, Return}
 use Rattle.domain_model.specs.declared.handler.Running.{Running}
 use Rattle.domain_model.specs.declared.line.TraceLine.TheVariants as line
-use Rattle.domain_model.specs.State.{Processor, Message, KernelState, RunnerState}
-use Rattle.domain_model.specs.Act.{act, act_running, act_at, act_store, act_return, act_call, is_loaded, message_of, post_where, post_to, plain_effect, store_effect, store_address, may_store, bank, next_unit}
+use Rattle.domain_model.specs.State.{Processor, Message, KernelState, RunnerState, register, with_register, with_byte}
+use Rattle.domain_model.specs.Act.{act, act_running, act_at, act_store, act_return, act_call, is_loaded, message_of, post_where, post_to, plain_effect, store_address, may_store, bank, next_unit}
 use Rattle.domain_model.specs.Units.{IsBuilt, AreProper, Service, PostShort, Say, MyId, service_of}
 use Rattle.domain_model.specs.Good.{GoodMachine, GoodModule, GoodHandler, GoodRunning, GoodHand, GoodEnding}
 use Rattle.unit_code.specs.Ends.{leaves}
+use Rattle.domain_model.proofs.InstructionLaws.{ldi_effect, mov_effect, stx_effect}
 use Rattle.domain_model.proofs.UnitLaws.{proper_fits, not_last}
 use Rattle.domain_model.proofs.Kept.{each_at, each_contained, contained_nowhere, contained_cases}
 use Rattle.domain_model.proofs.ModuleLaws.{found}
@@ -56,7 +57,7 @@ alone_call None run k r = refl
 alone_at : (o : Option Unit) (run : Running) (k : KernelState) (r : RunnerState) → Alone k (act_at o run k r).kernel
 alone_at None run k r = refl
 alone_at (Some (Plain i)) run k r = refl
-alone_at (Some (Store i)) run k r = alone_store (may_store k run (store_address k.processor)) i k r
+alone_at (Some (Store i)) run k r = alone_store (may_store k run (store_address i k.processor)) i k r
 alone_at (Some (KernelCall n)) run k r = alone_call (service_of n) run k r
 alone_at (Some Return) run k r = alone_return (k.processor.sp == run.base) k r
 alone_at (Some _) run k r = refl
@@ -87,7 +88,7 @@ banks_call None run k r = refl
 banks_at : (o : Option Unit) (run : Running) (k : KernelState) (r : RunnerState) → (act_at o run k r).runner.banks ≡ r.banks
 banks_at None run k r = refl
 banks_at (Some (Plain i)) run k r = refl
-banks_at (Some (Store i)) run k r = banks_store (may_store k run (store_address k.processor)) i k r
+banks_at (Some (Store i)) run k r = banks_store (may_store k run (store_address i k.processor)) i k r
 banks_at (Some (KernelCall n)) run k r = banks_call (service_of n) run k r
 banks_at (Some Return) run k r = banks_return (k.processor.sp == run.base) k r
 banks_at (Some _) run k r = refl
@@ -130,7 +131,7 @@ more_call None run k r = omega arith
 more_at : (o : Option Unit) (run : Running) (k : KernelState) (r : RunnerState) → length (in_order (act_at o run k r).kernel.queues) ≤ length (in_order k.queues) + 1
 more_at None run k r = omega arith
 more_at (Some (Plain i)) run k r = omega arith
-more_at (Some (Store i)) run k r = more_store (may_store k run (store_address k.processor)) i k r
+more_at (Some (Store i)) run k r = more_store (may_store k run (store_address i k.processor)) i k r
 more_at (Some (KernelCall n)) run k r = more_call (service_of n) run k r
 more_at (Some Return) run k r = more_return (k.processor.sp == run.base) k r
 more_at (Some _) run k r = omega arith
@@ -148,19 +149,27 @@ pub record AreAlike (p q : Processor) : Type 0 where
   pub registers : length q.registers ≡ length p.registers
   pub memory : length q.memory ≡ length p.memory
 
-pub plain_alike : (i : Instr) (p : Processor) → AreAlike p (plain_effect i p)
-plain_alike (Ldi d k) p = record { sp = refl; registers = length-set p.registers d _; memory = refl }
-plain_alike (Mov d r) p = record { sp = refl; registers = length-set p.registers d _; memory = refl }
-plain_alike _ p = record { sp = refl; registers = refl; memory = refl }
+register_alike : (p : Processor) (d v : ℕ) → AreAlike p (with_register p d v)
+register_alike p d v = record { sp = refl; registers = length-set p.registers d v; memory = refl }
 
-pub plain_memory : (i : Instr) (p : Processor) → (plain_effect i p).memory ≡ p.memory
-plain_memory (Ldi d k) p = refl
-plain_memory (Mov d r) p = refl
-plain_memory _ p = refl
+byte_alike : (p : Processor) (a v : ℕ) → AreAlike p (with_byte p a v)
+byte_alike p a v = record { sp = refl; registers = refl; memory = length-set p.memory _ v }
 
-pub store_alike : (i : Instr) (p : Processor) → AreAlike p (store_effect i p)
-store_alike (StX r) p = record { sp = refl; registers = refl; memory = length-set p.memory _ _ }
-store_alike _ p = record { sp = refl; registers = refl; memory = refl }
+-- no instruction that is built moves the stack pointer
+pub plain_alike : (i : Instr) (p : Processor) → IsBuilt (Plain i) → AreAlike p (plain_effect i p)
+plain_alike (Ldi d k) p built = subst (AreAlike p) (sym (ldi_effect d k p)) (register_alike p d k)
+plain_alike (Mov d r) p built = subst (AreAlike p) (sym (mov_effect d r p)) (register_alike p d (register p r))
+plain_alike _ p built = absurd built
+
+-- and none but a store changes a byte
+pub plain_memory : (i : Instr) (p : Processor) → IsBuilt (Plain i) → (plain_effect i p).memory ≡ p.memory
+plain_memory (Ldi d k) p built = ap (λ (q : Processor). q.memory) (ldi_effect d k p)
+plain_memory (Mov d r) p built = ap (λ (q : Processor). q.memory) (mov_effect d r p)
+plain_memory _ p built = absurd built
+
+pub store_alike : (i : Instr) (p : Processor) → IsBuilt (Store i) → AreAlike p (plain_effect i p)
+store_alike (StX r) p built = subst (AreAlike p) (sym (stx_effect r p)) (byte_alike p (store_address (StX r) p) (register p r))
+store_alike _ p built = absurd built
 
 -- The unit that runs.
 
@@ -234,7 +243,7 @@ quiet_call None run k r time id c = contained_nowhere (line.Unload time id) c
 quiet_at : (o : Option Unit) (run : Running) (k : KernelState) (r : RunnerState) (time id : ℕ) → Contains (act_at o run k r).lines (line.Unload time id) → ⊥
 quiet_at None run k r time id c = contained_nowhere (line.Unload time id) c
 quiet_at (Some (Plain i)) run k r time id c = contained_nowhere (line.Unload time id) c
-quiet_at (Some (Store i)) run k r time id c = quiet_store (may_store k run (store_address k.processor)) i k r time id c
+quiet_at (Some (Store i)) run k r time id c = quiet_store (may_store k run (store_address i k.processor)) i k r time id c
 quiet_at (Some (KernelCall n)) run k r time id c = quiet_call (service_of n) run k r time id c
 quiet_at (Some Return) run k r time id c = quiet_return (k.processor.sp == run.base) k r time id c
 quiet_at (Some _) run k r time id c = contained_nowhere (line.Unload time id) c
@@ -265,7 +274,7 @@ few_call None run k r = omega arith
 few_at : (o : Option Unit) (run : Running) (k : KernelState) (r : RunnerState) → length (act_at o run k r).lines ≤ 1
 few_at None run k r = omega arith
 few_at (Some (Plain i)) run k r = omega arith
-few_at (Some (Store i)) run k r = few_store (may_store k run (store_address k.processor)) i k r
+few_at (Some (Store i)) run k r = few_store (may_store k run (store_address i k.processor)) i k r
 few_at (Some (KernelCall n)) run k r = few_call (service_of n) run k r
 few_at (Some Return) run k r = few_return (k.processor.sp == run.base) k r
 few_at (Some _) run k r = omega arith

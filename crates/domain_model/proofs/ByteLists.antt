@@ -7,14 +7,16 @@ use Rattle.std.specs.List.{AllByRecursion}
 use Rattle.avr_isa.specs.declared.instruction.Instr.{Instr}
 use Rattle.avr_isa.specs.declared.instruction.Instr.TheVariants.{Ldi, Mov, StX}
 use Rattle.mote_layout.specs.Memory.{register_count, ram_start, message_frame, message_frame_bytes, stack_top}
-use Rattle.unit_code.specs.declared.unit.Unit.TheVariants.{Plain}
-use Rattle.domain_model.specs.Bytes.{AreBytes, low, high}
+use Rattle.unit_code.specs.declared.unit.Unit.TheVariants.{Plain, Store}
+use Rattle.avr_machine.specs.Processor.{low, high}
+use Rattle.domain_model.specs.Bytes.{AreBytes}
 use Rattle.domain_model.specs.Units.{IsBuilt}
-use Rattle.domain_model.specs.State.{Processor, Message, Loaded, RunnerState, register, pair, with_pair, with_zeros, frame_of, dispatched}
-use Rattle.domain_model.specs.Act.{id_at, plain_effect, store_effect, store_address}
+use Rattle.domain_model.specs.State.{Processor, Message, Loaded, RunnerState, register, with_register, pair, with_pair, with_zeros, frame_of, dispatched}
+use Rattle.domain_model.specs.Act.{id_at, plain_effect, store_address}
 use Rattle.domain_model.specs.Free.{SameBut}
 use Rattle.domain_model.specs.Turn.{kernel_message}
 use Rattle.domain_model.specs.Good.{GoodProcessor, GoodModule, IsFramed}
+use Rattle.domain_model.proofs.InstructionLaws.{ldi_effect, mov_effect, stx_effect}
 
 -- Lists of bytes.
 
@@ -81,14 +83,20 @@ pair_bytes p d w small h = record {
   memory = h.memory;
 }
 
+register_bytes : (p : Processor) (d v : ℕ) → v < 256 → HasBytes p → HasBytes (with_register p d v)
+register_bytes p d v below h = record { registers = bytes_set p.registers d v below h.registers; memory = h.memory }
+
 pub plain_bytes : (i : Instr) (p : Processor) → IsBuilt (Plain i) → HasBytes p → HasBytes (plain_effect i p)
-plain_bytes (Ldi d k) p built h = record { registers = bytes_set p.registers d k built.1 h.registers; memory = h.memory }
-plain_bytes (Mov d r) p built h = record { registers = bytes_set p.registers d (register p r) (h.registers r) h.registers; memory = h.memory }
+plain_bytes (Ldi d k) p built h = subst HasBytes (sym (ldi_effect d k p)) (register_bytes p d k built.1 h)
+plain_bytes (Mov d r) p built h = subst HasBytes (sym (mov_effect d r p)) (register_bytes p d (register p r) (h.registers r) h)
 plain_bytes _ p built h = absurd built
 
-pub store_bytes : (i : Instr) (p : Processor) → HasBytes p → HasBytes (store_effect i p)
-store_bytes (StX r) p h = record { registers = h.registers; memory = bytes_set p.memory (store_address p - ram_start) (register p r) (h.registers r) h.memory }
-store_bytes _ p h = h
+pub store_bytes : (i : Instr) (p : Processor) → IsBuilt (Store i) → HasBytes p → HasBytes (plain_effect i p)
+store_bytes (StX r) p built h = subst HasBytes (sym (stx_effect r p)) (record {
+  registers = h.registers;
+  memory = bytes_set p.memory (store_address (StX r) p - ram_start) (register p r) (h.registers r) h.memory;
+})
+store_bytes _ p built h = absurd built
 
 -- Messages, whose numbers fit the message frame.
 

@@ -14,16 +14,17 @@ use Rattle.domain_model.specs.declared.fault.UnitEnd.TheVariants.{On, Over, Faul
 use Rattle.domain_model.specs.declared.handler.Running.{Running}
 use Rattle.domain_model.specs.declared.line.TraceLine.{TraceLine}
 use Rattle.domain_model.specs.State.{Processor, KernelState, RunnerState, State, register, with_byte}
-use Rattle.domain_model.specs.Act.{Acted, act, act_running, act_at, act_store, act_return, act_call, store_effect, store_address, may_store, next_unit}
+use Rattle.domain_model.specs.Act.{Acted, act, act_running, act_at, act_store, act_return, act_call, plain_effect, store_address, may_store, next_unit}
 use Rattle.domain_model.specs.Free.{UnitStep, unit_free, is_dead, is_kernel_byte, calls_kernel, ends_handler, enters_from, enters_kernel, dead_top}
 use Rattle.domain_model.specs.Turn.{settled, at_clock, made, Turn}
 use Rattle.domain_model.specs.Good.{GoodMachine, GoodRunning, Good}
 use Rattle.domain_model.specs.Laws.{MayChange, KeepsOthers, MayChangeAtFault, Confined}
-use Rattle.domain_model.specs.Units.{Service, PostShort, Say, MyId, service_of}
+use Rattle.domain_model.specs.Units.{IsBuilt, Service, PostShort, Say, MyId, service_of}
 use Rattle.domain_model.specs.Facts.{IsActing}
 use Rattle.domain_model.proofs.ChoiceLaws.{choice_facts}
-use Rattle.domain_model.proofs.ActLaws.{running_good, store_in_memory, plain_alike, plain_memory, store_alike, act_keeps_banks}
+use Rattle.domain_model.proofs.ActLaws.{running_good, store_in_memory, unit_is_built, plain_alike, plain_memory, store_alike, act_keeps_banks}
 use Rattle.domain_model.proofs.CloseLaws.{settled_rests}
+use Rattle.domain_model.proofs.InstructionLaws.{stx_effect}
 use Rattle.domain_model.proofs.TurnLaws.{step_changes_alone, step_queues}
 
 -- The machine's own unit.
@@ -54,9 +55,11 @@ permitted k r run address good e =
           inr (omega (arith, above, good.floor), leb-true address run.bound both.1)
     ]
 
-stored_bytes : (i : Instr) (k : KernelState) (run : Running) → ram_start ≤ store_address k.processor → MayChange k run (store_address k.processor) → OwnBytes k run (store_effect i k.processor).memory
-stored_bytes (StX r) k run low may = own_byte k run (store_address k.processor) (register k.processor r) low may
-stored_bytes _ k run low may = none_differs k run k.processor.memory refl
+stored_bytes : (i : Instr) (k : KernelState) (run : Running) → IsBuilt (Store i) → ram_start ≤ store_address i k.processor → MayChange k run (store_address i k.processor) → OwnBytes k run (plain_effect i k.processor).memory
+stored_bytes (StX r) k run built low may =
+    subst (λ (p : Processor). OwnBytes k run p.memory) (sym (stx_effect r k.processor))
+    (own_byte k run (store_address (StX r) k.processor) (register k.processor r) low may)
+stored_bytes _ k run built low may = absurd built
 
 -- A unit that goes on and is no kernel call changes its domain's bytes, and not the stack pointer.
 record OwnUnit (k : KernelState) (run : Running) (got : Acted) : Type 0 where
@@ -64,23 +67,24 @@ record OwnUnit (k : KernelState) (run : Running) (got : Acted) : Type 0 where
   sp : got.kernel.processor.sp ≡ k.processor.sp
   queues : got.kernel.queues ≡ k.queues
 
-own_store : (b : Bool) (i : Instr) (k : KernelState) (r : RunnerState) (run : Running) → (b ≡ true → (ram_start ≤ store_address k.processor) × MayChange k run (store_address k.processor)) → ends_handler (act_store b i k r).ending ≡ false → OwnUnit k run (act_store b i k r)
-own_store true i k r run may on = record { bytes = stored_bytes i k run (may refl).0 (may refl).1; sp = (store_alike i k.processor).sp; queues = refl }
-own_store false i k r run may on = absurd (cc)
+own_store : (b : Bool) (i : Instr) (k : KernelState) (r : RunnerState) (run : Running) → IsBuilt (Store i) → (b ≡ true → (ram_start ≤ store_address i k.processor) × MayChange k run (store_address i k.processor)) → ends_handler (act_store b i k r).ending ≡ false → OwnUnit k run (act_store b i k r)
+own_store true i k r run built may on = record { bytes = stored_bytes i k run built (may refl).0 (may refl).1; sp = (store_alike i k.processor built).sp; queues = refl }
+own_store false i k r run built may on = absurd (cc)
 
 own_return : (b : Bool) (k : KernelState) (r : RunnerState) (run : Running) → ends_handler (act_return b k r).ending ≡ false → OwnUnit k run (act_return b k r)
 own_return true k r run on = absurd (cc)
 own_return false k r run on = absurd (cc)
 
-own_at : (o : Option Unit) (k : KernelState) (r : RunnerState) (run : Running) → GoodMachine k r → k.running ≡ Some run → calls_kernel o ≡ false → ends_handler (act_at o run k r).ending ≡ false → OwnUnit k run (act_at o run k r)
-own_at None k r run h i call on = absurd (cc)
-own_at (Some (Plain u)) k r run h i call on = record { bytes = none_differs k run _ (plain_memory u k.processor); sp = (plain_alike u k.processor).sp; queues = refl }
-own_at (Some (Store u)) k r run h i call on =
-    own_store (may_store k run (store_address k.processor)) u k r run
-    (λ e. ((store_in_memory k r run (store_address k.processor) h i e).0, permitted k r run (store_address k.processor) (running_good k r run h i).0 e)) on
-own_at (Some (KernelCall n)) k r run h i call on = absurd (cc)
-own_at (Some Return) k r run h i call on = own_return (k.processor.sp == run.base) k r run on
-own_at (Some _) k r run h i call on = absurd (cc)
+own_at : (o : Option Unit) (k : KernelState) (r : RunnerState) (run : Running) → GoodMachine k r → k.running ≡ Some run → ((u : Unit) → o ≡ Some u → IsBuilt u) → calls_kernel o ≡ false → ends_handler (act_at o run k r).ending ≡ false → OwnUnit k run (act_at o run k r)
+own_at None k r run h i built call on = absurd (cc)
+own_at (Some (Plain u)) k r run h i built call on =
+    record { bytes = none_differs k run _ (plain_memory u k.processor (built (Plain u) refl)); sp = (plain_alike u k.processor (built (Plain u) refl)).sp; queues = refl }
+own_at (Some (Store u)) k r run h i built call on =
+    own_store (may_store k run (store_address u k.processor)) u k r run (built (Store u) refl)
+    (λ e. ((store_in_memory k r run (store_address u k.processor) h i e).0, permitted k r run (store_address u k.processor) (running_good k r run h i).0 e)) on
+own_at (Some (KernelCall n)) k r run h i built call on = absurd (cc)
+own_at (Some Return) k r run h i built call on = own_return (k.processor.sp == run.base) k r run on
+own_at (Some _) k r run h i built call on = absurd (cc)
 
 -- the same for the unit that is next
 own_running : (o : Option Running) (k : KernelState) (r : RunnerState) (run : Running) → GoodMachine k r → k.running ≡ Some run → o ≡ Some run → enters_from o r (act_running o k r).ending ≡ false → OwnUnit k run (act_running o k r) × ((act_running o k r).ending ≡ On)
@@ -88,7 +92,7 @@ own_running None k r run h i e out = absurd (cc)
 own_running (Some now) k r run h i e out =
     let parts = or_parts (calls_kernel (next_unit r now)) (ends_handler (act_at (next_unit r now) now k r).ending) out in
     let same : now ≡ run = cc in
-    (subst (λ (x : Running). OwnUnit k x (act_at (next_unit r now) now k r)) same (own_at (next_unit r now) k r now h (i ∙ sym e) parts.0 parts.1), goes_on (act_at (next_unit r now) now k r).ending parts.1)
+    (subst (λ (x : Running). OwnUnit k x (act_at (next_unit r now) now k r)) same (own_at (next_unit r now) k r now h (i ∙ sym e) (λ u next. unit_is_built k r now u h (i ∙ sym e) next) parts.0 parts.1), goes_on (act_at (next_unit r now) now k r).ending parts.1)
   where
     goes_on : (ending : UnitEnd) → ends_handler ending ≡ false → ending ≡ On
     goes_on On on = refl
@@ -168,7 +172,7 @@ call_end None run k r e = refl
 at_end : (o : Option Unit) (run : Running) (k : KernelState) (r : RunnerState) → ends_handler (act_at o run k r).ending ≡ true → (act_at o run k r).kernel ≡ k
 at_end None run k r e = refl
 at_end (Some (Plain i)) run k r e = absurd (cc)
-at_end (Some (Store i)) run k r e = store_end (may_store k run (store_address k.processor)) i k r e
+at_end (Some (Store i)) run k r e = store_end (may_store k run (store_address i k.processor)) i k r e
 at_end (Some (KernelCall n)) run k r e = call_end (service_of n) run k r e
 at_end (Some Return) run k r e = return_end (k.processor.sp == run.base) k r e
 at_end (Some _) run k r e = refl

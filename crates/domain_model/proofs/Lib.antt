@@ -5,6 +5,7 @@ pub mod ChoiceLaws
 pub mod ModuleLaws
 pub mod BlockLaws
 pub mod UnitLaws
+pub mod InstructionLaws
 pub mod ActLaws
 pub mod MachineLaws
 pub mod CloseLaws

@@ -1,9 +1,8 @@
 -- Kernel and runner stay good: each change of the two on its own.
 use Rattle.std.proofs.Common.{◌≡◌, ◌≢◌, ◌⊎◌, inl, inr, ℕ, ◌+◌, ◌^◌, ◌<◌, ◌≤◌, ◌==◌, nat_lt, not, List, [], ◌∷◌, ◌++◌, length, drop, Bool, true, false, refl, sym, ap, ◌∙◌, subst, arith, Option, Some, None, Ok, Err, slice_get}
 use Rattle.std.specs.List.{AllByRecursion, Contains}
-use Rattle.std.specs.Option.{unwrap_or}
+use Rattle.std.specs.Prelude.{slice_index_or, slice_set}
 use Rattle.std.proofs.lemmas.Bool.{eqb-false, or_parts, cond_both, ltb-true, not-true}
-use Rattle.std.proofs.lemmas.Option.{unwrap_or-slice_get}
 use Rattle.std.proofs.lemmas.List.{length-set, length-append, length-drop, get_or-set_same, get_or-set_other}
 use Rattle.avr_isa.specs.declared.instruction.Instr.{Instr}
 use Rattle.mote_base.specs.Messages.{Lists, queue_limit, list_of, in_order, front, without_front, appended, names, unnamed}
@@ -18,11 +17,12 @@ use Rattle.domain_model.specs.declared.fault.FaultNote.{FaultNote}
 use Rattle.domain_model.specs.declared.fault.UnitEnd.{UnitEnd}
 use Rattle.domain_model.specs.declared.fault.UnitEnd.TheVariants.{On, Over, Fault}
 use Rattle.domain_model.specs.declared.line.TraceLine.{TraceLine}
+use Rattle.avr_machine.specs.Processor.{low, high}
 use Rattle.domain_model.specs.Bytes.{AreBytes}
 use Rattle.domain_model.specs.Prepared.{Module, Prep}
-use Rattle.domain_model.specs.Units.{AreProper, Service, PostShort, Say, MyId, service_of}
+use Rattle.domain_model.specs.Units.{IsBuilt, AreProper, Service, PostShort, Say, MyId, service_of}
 use Rattle.domain_model.specs.State.{Loaded, Processor, Message, radio, KernelState, RunnerState, with_processor, with_pair, frame_of, dispatched}
-use Rattle.domain_model.specs.Act.{Acted, act, act_running, act_at, act_store, act_return, act_call, answered, id_at, is_loaded, message_of, post_where, post_to, plain_effect, store_effect, store_address, may_store, bank, next_unit}
+use Rattle.domain_model.specs.Act.{Acted, act, act_running, act_at, act_store, act_return, act_call, answered, id_at, is_loaded, message_of, post_where, post_to, plain_effect, store_address, may_store, bank, next_unit}
 use Rattle.domain_model.specs.Free.{SameKernel, with_memory, unit_free, UnitStep}
 use Rattle.domain_model.specs.Turn.{in_use, module_named, without_domain, free_domain, Given, given, seated, init_to, final_to, Moved, loaded, load_given, load_in, load_new, load_prepared, load_image, unload_module, deliver, dispatch, begun, came, with_none_ending, close_module, close, settled, faulted, purged, handler_ended, at_clock, placed, emptied, entered}
 use Rattle.domain_model.specs.Good.{GoodProcessor, GoodModule, AreEntered, GoodMachine, GoodHandler, GoodRunning, GoodEnding, GoodQueues, IsFramed, IsKnown, AreDistinct, GoodImage, IsGoodImage}
@@ -36,11 +36,11 @@ use Rattle.domain_model.proofs.ActLaws.{with_both, AreAlike, plain_alike, store_
 
 pub bank_same : (r : RunnerState) (domain : ℕ) (units : List Unit) → domain < length r.banks → bank (placed r domain units) domain ≡ units
 bank_same r domain units below =
-    unwrap_or-slice_get (placed r domain units).banks domain [] ∙ get_or-set_same r.banks domain units [] below
+    get_or-set_same r.banks domain units [] below
 
 pub bank_other : (r : RunnerState) (domain other : ℕ) (units : List Unit) → other ≢ domain → bank (placed r domain units) other ≡ bank r other
 bank_other r domain other units ne =
-    unwrap_or-slice_get (placed r domain units).banks other [] ∙ get_or-set_other r.banks domain other units [] ne ∙ sym (unwrap_or-slice_get r.banks other [])
+    get_or-set_other r.banks domain other units [] ne
 
 -- a module whose bank is the same
 module_kept : (r s : RunnerState) (m : Loaded) → bank s m.domain ≡ bank r m.domain → GoodModule r m → GoodModule s m
@@ -53,7 +53,7 @@ module_kept r s m e h = record {
 }
 
 pub same_banks : (r s : RunnerState) → s.banks ≡ r.banks → (domain : ℕ) → bank s domain ≡ bank r domain
-same_banks r s e domain = ap (λ (bs : List (List Unit)). unwrap_or (slice_get bs domain) []) e
+same_banks r s e domain = ap (λ (bs : List (List Unit)). slice_index_or bs domain []) e
 
 modules_kept : (r s : RunnerState) → s.banks ≡ r.banks → (ms : List Loaded) → AllByRecursion (GoodModule r) ms → AllByRecursion (GoodModule s) ms
 modules_kept r s e ms h = each_weaker (GoodModule r) (GoodModule s) (λ m. module_kept r s m (same_banks r s e m.domain)) ms h
@@ -454,17 +454,18 @@ goes_on_good k n r run h i alike bytes alone queues behind =
 abbrev GoodActed : Acted → Type 0
 GoodActed got = GoodMachine got.kernel got.runner
 
-store_acted : (b : Bool) (i : Instr) (run : Running) (k : KernelState) (r : RunnerState) → GoodMachine k r → k.running ≡ Some run → r.unit + 1 < length (bank r run.domain) → GoodActed (act_store b i k r)
-store_acted true i run k r h e behind = goes_on_good k (with_processor k (store_effect i k.processor)) r run h e (store_alike i k.processor)
-    (store_bytes i k.processor (good_bytes k.processor h.processor)) refl h.queues behind
-store_acted false i run k r h e behind = h
+store_acted : (b : Bool) (i : Instr) (run : Running) (k : KernelState) (r : RunnerState) → IsBuilt (Store i) → GoodMachine k r → k.running ≡ Some run → r.unit + 1 < length (bank r run.domain) → GoodActed (act_store b i k r)
+store_acted true i run k r built h e behind =
+    goes_on_good k (with_processor k (plain_effect i k.processor)) r run h e (store_alike i k.processor built)
+    (store_bytes i k.processor built (good_bytes k.processor h.processor)) refl h.queues behind
+store_acted false i run k r built h e behind = h
 
 return_acted : (b : Bool) (k : KernelState) (r : RunnerState) → GoodMachine k r → GoodActed (act_return b k r)
 return_acted true k r h = h
 return_acted false k r h = h
 
 with_pair_alike : (p : Processor) (d w : ℕ) → AreAlike p (with_pair p d w)
-with_pair_alike p d w = record { sp = refl; registers = simp length-set refl; memory = refl }
+with_pair_alike p d w = record { sp = refl; registers = length-set (slice_set p.registers d (low w)) (d + 1) (high w) ∙ length-set p.registers d (low w); memory = refl }
 
 same_alike : (p : Processor) → AreAlike p p
 same_alike p = record { sp = refl; registers = refl; memory = refl }
@@ -506,10 +507,10 @@ module _ (k : KernelState) (r : RunnerState) (run : Running) (h : GoodMachine k 
 at_acted : (o : Option Unit) (run : Running) (k : KernelState) (r : RunnerState) → GoodMachine k r → k.running ≡ Some run → next_unit r run ≡ o → GoodActed (act_at o run k r)
 at_acted None run k r h e next = h
 at_acted (Some (Plain i)) run k r h e next =
-    goes_on_good k (with_processor k (plain_effect i k.processor)) r run h e (plain_alike i k.processor)
+    goes_on_good k (with_processor k (plain_effect i k.processor)) r run h e (plain_alike i k.processor (unit_is_built k r run (Plain i) h e next))
     (plain_bytes i k.processor (unit_is_built k r run (Plain i) h e next) (good_bytes k.processor h.processor)) refl h.queues (unit_behind k r run (Plain i) h e next refl)
 at_acted (Some (Store i)) run k r h e next =
-    store_acted (may_store k run (store_address k.processor)) i run k r h e (unit_behind k r run (Store i) h e next refl)
+    store_acted (may_store k run (store_address i k.processor)) i run k r (unit_is_built k r run (Store i) h e next) h e (unit_behind k r run (Store i) h e next refl)
 at_acted (Some (KernelCall n)) run k r h e next = call_acted k r run h e (unit_behind k r run (KernelCall n) h e next refl) (service_of n)
 at_acted (Some Return) run k r h e next = return_acted (k.processor.sp == run.base) k r h
 at_acted (Some _) run k r h e next = h

@@ -6,14 +6,14 @@ use Rattle.mote_layout.specs.Memory.{register_count, ram_bytes}
 use Rattle.domain_model.specs.declared.event.LoaderEvent.{LoaderEvent}
 use Rattle.domain_model.specs.Loader.{loader_events}
 use Rattle.domain_model.specs.Prepared.{Prep, prepared}
-use Rattle.domain_model.specs.State.{State, Input, begins, start, no_bytes}
+use Rattle.domain_model.specs.State.{State, Input, begins, start, no_memory}
 use Rattle.domain_model.specs.Turn.{IsStart, is_unstated}
 use Rattle.domain_model.specs.Good.{Good, IsGoodImage, AreTimes}
 use Rattle.domain_model.proofs.ByteLists.{bytes_zeros}
 use Rattle.domain_model.proofs.TurnLaws.{same_state_good}
 
 pub begins_good : (images : List (Option Prep)) (events : List LoaderEvent) (units handler : ℕ) → AllByRecursion IsGoodImage images → AreTimes events → units ≤ unit_limit → 1 ≤ handler → handler ≤ handler_limit → Good (begins images events units handler)
-unfolding no_bytes
+unfolding no_memory
 begins_good images events units handler good times most least highest = record {
   machine = record {
     processor = record { registers = refl; memory = refl; register_bytes = bytes_zeros register_count; memory_bytes = bytes_zeros ram_bytes };

@@ -1,5 +1,5 @@
 -- The times of the loader's events that are still to come.
-use Rattle.std.proofs.Common.{◌≡◌, ℕ, ◌<◌, ◌≤◌, ◌^◌, ◌&&◌, inl, inr, nat_le, List, [], ◌∷◌, length, Option, Some, None, refl, subst, arith, slice_get, drop}
+use Rattle.std.proofs.Common.{◌≡◌, ℕ, ◌<◌, ◌≤◌, ◌^◌, List, [], ◌∷◌, Some, subst, arith, slice_get, drop}
 use Rattle.std.proofs.lemmas.Option.{none-some, same_Some}
 use Rattle.domain_model.specs.declared.event.LoaderEvent.{LoaderEvent}
 use Rattle.domain_model.specs.Good.{AreTimesFrom, AreTimes}

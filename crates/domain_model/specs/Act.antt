@@ -1,11 +1,11 @@
 -- What one unit does.
-use Rattle.std.specs.Prelude.{ℕ, ◌+◌, ◌%◌, ◌==◌, nat_lt, List, [], ◌∷◌, length, Bool, true, false, Option, Some, None, slice_get, find, unwrap_or}
+use Rattle.std.specs.Prelude.{ℕ, ◌+◌, ◌%◌, ◌==◌, nat_lt, List, [], ◌∷◌, length, Bool, true, false, Option, Some, None, slice_get, slice_index_or, find, unwrap_or}
 use Rattle.std.specs.List.{list_any}
 use Rattle.std.specs.Option.{option_map_or}
 use Rattle.avr_isa.specs.declared.instruction.Instr.{Instr}
-use Rattle.avr_isa.specs.declared.instruction.Instr.TheVariants.{Ldi, Mov, StX}
+use Rattle.avr_machine.specs.Effect.{effect}
+use Rattle.avr_machine.specs.Modes.{store_address as address_by_mode}
 use Rattle.mote_base.specs.Messages.{list_of, appended, queue_limit}
-use Rattle.mote_layout.specs.Memory.{pointer_x}
 use Rattle.mote_layout.specs.Store.{may_store as permits}
 use Rattle.unit_code.specs.declared.unit.Unit.{Unit}
 use Rattle.unit_code.specs.declared.unit.Unit.TheVariants.{Plain, Store, KernelCall, Return}
@@ -16,7 +16,7 @@ use Rattle.domain_model.specs.declared.fault.UnitEnd.{UnitEnd}
 use Rattle.domain_model.specs.declared.fault.UnitEnd.TheVariants.{On, Over, Fault}
 use Rattle.domain_model.specs.declared.line.TraceLine.{TraceLine}
 use Rattle.domain_model.specs.declared.line.TraceLine.TheVariants as line
-use Rattle.domain_model.specs.State.{Processor, Message, Loaded, KernelState, RunnerState, register, with_register, pair, with_pair, with_byte, with_processor}
+use Rattle.domain_model.specs.State.{Processor, Message, Loaded, KernelState, RunnerState, at_counter, without_counter, register, pair, with_pair, with_processor}
 use Rattle.domain_model.specs.Units.{Service, PostShort, Say, MyId, service_of}
 
 -- Kernel and runner after a unit, the lines that it wrote, and how it ended.
@@ -55,20 +55,14 @@ is_loaded modules id = list_any (λ m. m.face.id == id) modules
 abbrev pub may_store : KernelState → Running → ℕ → Bool
 may_store k run address = permits k.blocks run.domain k.processor.sp run.bound address
 
--- What a load of a constant and a copy of a register do to the processor.
+-- What the instruction of a unit does to the processor, stores too. It leads to the next instruction, so that neither the
+-- program counter nor what stands behind that one matters.
 abbrev pub plain_effect : Instr → Processor → Processor
-plain_effect (Ldi d k) p = with_register p d k
-plain_effect (Mov d r) p = with_register p d (register p r)
-plain_effect _ p = p
+plain_effect i p = without_counter (effect i 0 (at_counter p 0))
 
--- The address that a store writes: X is R27:R26.
-abbrev pub store_address : Processor → ℕ
-store_address p = pair p pointer_x
-
--- The byte that a store writes.
-abbrev pub store_effect : Instr → Processor → Processor
-store_effect (StX r) p = with_byte p (store_address p) (register p r)
-store_effect _ p = p
+-- The address that a store writes, by its mode. Only an instruction that is no store has none.
+abbrev pub store_address : Instr → Processor → ℕ
+store_address i p = unwrap_or (address_by_mode i (at_counter p 0)) 0
 
 -- The answer of a kernel call is in R25:R24.
 abbrev pub answered : KernelState → ℕ → KernelState
@@ -77,8 +71,8 @@ answered k answer = with_processor k (with_pair k.processor 24 answer)
 -- Each unit with a need, by whether it is met.
 
 abbrev pub act_store : Bool → Instr → KernelState → RunnerState → Acted
-act_store true i k r = goes_on (with_processor k (store_effect i k.processor)) r []
-act_store false i k r = faults rule.Store (store_address k.processor) k r
+act_store true i k r = goes_on (with_processor k (plain_effect i k.processor)) r []
+act_store false i k r = faults rule.Store (store_address i k.processor) k r
 
 abbrev pub act_return : Bool → KernelState → RunnerState → Acted
 act_return true k r = returns k r
@@ -123,14 +117,14 @@ act_call None run k r = goes_on k r []
 -- A unit by its kind. No run has one that is not built: it would end the handler and change nothing.
 abbrev pub act_unit : Unit → Running → KernelState → RunnerState → Acted
 act_unit (Plain i) run k r = goes_on (with_processor k (plain_effect i k.processor)) r []
-act_unit (Store i) run k r = act_store (may_store k run (store_address k.processor)) i k r
+act_unit (Store i) run k r = act_store (may_store k run (store_address i k.processor)) i k r
 act_unit (KernelCall n) run k r = act_call (service_of n) run k r
 act_unit Return run k r = act_return (k.processor.sp == run.base) k r
 act_unit _ run k r = returns k r
 
 -- the units of a domain's module
 abbrev pub bank : RunnerState → ℕ → List Unit
-bank r domain = unwrap_or (slice_get r.banks domain) []
+bank r domain = slice_index_or r.banks domain []
 
 -- the unit that runs next
 abbrev pub next_unit : RunnerState → Running → Option Unit

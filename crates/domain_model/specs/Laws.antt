@@ -1,6 +1,10 @@
 -- What holds of every turn of every run.
 use Rattle.std.specs.Prelude.{◌≡◌, ◌≢◌, ◌⊎◌, ℕ, ◌+◌, ◌≤◌, List, [], Option, Some, None, Contains, true, false, slice_index, ⊤}
 use Rattle.mote_base.specs.Messages.{in_order, unnamed}
+use Rattle.avr_isa.specs.declared.instruction.Instr.{Instr}
+use Rattle.avr_machine.specs.Processor.{Processor as CountingProcessor}
+use Rattle.avr_machine.specs.Effect.{effect}
+use Rattle.avr_machine.specs.Conditions.{IsStraight}
 use Rattle.module_image.specs.Links.{bound_slot}
 use Rattle.mote_layout.specs.Memory.{ram_start, red_zone_start, kernel_bytes_start, kernel_bytes_end, kernel}
 use Rattle.mote_layout.specs.Blocks.{without_owner, owns}
@@ -11,8 +15,8 @@ use Rattle.domain_model.specs.declared.fault.FaultNote.{FaultNote}
 use Rattle.domain_model.specs.declared.fault.UnitEnd.TheVariants.{Fault}
 use Rattle.domain_model.specs.declared.line.TraceLine.{TraceLine}
 use Rattle.domain_model.specs.declared.line.TraceLine.TheVariants as line
-use Rattle.domain_model.specs.State.{Message, Loaded, KernelState, RunnerState, State, seats}
-use Rattle.domain_model.specs.Act.{act, bank}
+use Rattle.domain_model.specs.State.{Processor, Message, Loaded, KernelState, RunnerState, State, at_counter, without_counter, seats}
+use Rattle.domain_model.specs.Act.{act, plain_effect, bank}
 use Rattle.domain_model.specs.Free.{enters_kernel}
 use Rattle.domain_model.specs.Turn.{choice, without_domain, Turn, RunBy, RunFrom}
 use Rattle.domain_model.specs.Good.{Good}
@@ -116,6 +120,16 @@ abbrev pub LawfulRunFrom : State → List TraceLine → Type 0
 LawfulRunFrom s lines = RunBy LawfulTurn s lines
 
 -- The laws of the machine.
+
+-- The program counter is all that a processor forgets.
+abbrev pub CounterComesBack : Type 0
+CounterComesBack = (c : CountingProcessor) → at_counter (without_counter c) c.pc ≡ c
+
+-- Wherever the program counter stands and whatever follows, an instruction that leads to the next one leaves the counter
+-- and does what it does as a unit.
+abbrev pub UnitsActAsInstructions : Type 0
+UnitsActAsInstructions = (i : Instr) (over address : ℕ) (p : Processor) → IsStraight i
+    → effect i over (at_counter p address) ≡ at_counter (plain_effect i p) address
 
 -- Every turn from a good state is lawful.
 abbrev pub TurnsAreLawful : Type 0

@@ -1,9 +1,13 @@
 -- The state of the machine.
-use Rattle.std.specs.Prelude.{⊤, ℕ, ◌+◌, ◌-◌, ◌*◌, List, [], ◌∷◌, ◌++◌, Option, None, slice_index, slice_set, replicate, take, drop, map}
-use Rattle.mote_layout.specs.Memory.{register_count, ram_start, ram_bytes, message_frame, message_frame_bytes, domain_count, stack_top}
+use Rattle.std.specs.Prelude.{⊤, ℕ, List, [], ◌∷◌, ◌++◌, Option, None, replicate, drop, map}
+use Rattle.mote_layout.specs.Memory.{register_count, message_frame, message_frame_bytes, domain_count, stack_top}
 use Rattle.mote_base.specs.declared.message.Msg.{Msg}
 use Rattle.mote_base.specs.Messages.{Lists}
 use Rattle.mote_layout.specs.declared.segment.Segment.{Segment}
+use Rattle.avr_machine.specs.Processor.{Processor as CountingProcessor, register as register_of, pair as pair_of, low, high, no_processor as no_counting_processor}
+use Rattle.avr_machine.specs.Write.{Write, set_register, set_pair, set_byte, written}
+unfoldable pub use Rattle.avr_machine.specs.Processor.{no_memory}
+pub use Rattle.avr_machine.specs.Bytes.{with_zeros}
 use Rattle.unit_code.specs.declared.unit.Unit.{Unit}
 use Rattle.module_image.specs.declared.face.Face.{Face}
 use Rattle.module_image.specs.Links.{Seat}
@@ -13,11 +17,11 @@ use Rattle.domain_model.specs.declared.script.Event.{Event}
 use Rattle.domain_model.specs.Loader.{loader_events}
 use Rattle.domain_model.specs.declared.event.Turned.{Turned}
 use Rattle.domain_model.specs.declared.event.Turned.TheVariants.{More}
-use Rattle.domain_model.specs.Bytes.{low, high}
 use Rattle.domain_model.specs.Prepared.{Prep, prepared}
 
 -- The processor: R0 to R31, the status register, the stack pointer, and the bytes of the memory.
--- Byte i of the memory has the data address 0x0100 + i.
+-- Byte i of the memory has the data address 0x0100 + i. It has no program counter: between two units the runner's
+-- number of the next one says where the run stands.
 pub record Processor : Type 0 where
   pub registers : List ℕ
   pub sreg : ℕ
@@ -81,23 +85,36 @@ pub record Input : Type 0 where
   pub unit_limit : ℕ
   pub handler_limit : ℕ
 
--- a register, and the registers with another value there
+-- the processor with its program counter at an address, as it runs instructions
+abbrev pub at_counter : Processor → ℕ → CountingProcessor
+at_counter p address =
+    record { registers = p.registers; sreg = p.sreg; sp = p.sp; pc = address; memory = p.memory }
+
+-- and the processor that has no program counter any more
+abbrev pub without_counter : CountingProcessor → Processor
+without_counter c = record { registers = c.registers; sreg = c.sreg; sp = c.sp; memory = c.memory }
+
+-- a register
 abbrev pub register : Processor → ℕ → ℕ
-register p d = slice_index p.registers d
+register p d = register_of (at_counter p 0) d
 
-abbrev pub with_register : Processor → ℕ → ℕ → Processor
-with_register p d v = record p { registers = slice_set p.registers d v }
-
--- a pair of registers by its lower one, low byte first, and the processor with another word there
+-- a pair of registers by its lower one, low byte first
 abbrev pub pair : Processor → ℕ → ℕ
-pair p d = register p d + 256 * register p (d + 1)
+pair p d = pair_of (at_counter p 0) d
+
+-- The processor after one change.
+abbrev pub changed : Write → Processor → Processor
+changed change p = without_counter (written change (at_counter p 0))
+
+-- with another value in a register, another word in a pair of registers, another byte at an address
+abbrev pub with_register : Processor → ℕ → ℕ → Processor
+with_register p d v = changed (set_register d v) p
 
 abbrev pub with_pair : Processor → ℕ → ℕ → Processor
-with_pair p d w = with_register (with_register p d (low w)) (d + 1) (high w)
+with_pair p d w = changed (set_pair d w) p
 
--- the processor with another byte at an address
 abbrev pub with_byte : Processor → ℕ → ℕ → Processor
-with_byte p a v = record p { memory = slice_set p.memory (a - ram_start) v }
+with_byte p a v = changed (set_byte a v) p
 
 abbrev pub with_processor : KernelState → Processor → KernelState
 with_processor k p = record k { processor = p }
@@ -106,10 +123,6 @@ with_processor k p = record k { processor = p }
 -- (`bound_slot`).
 abbrev pub seats : List Loaded → List Seat
 seats modules = map (λ m. record { domain = m.domain; face = m.face }) modules
-
--- n bytes from place i on are 0
-abbrev pub with_zeros : List ℕ → ℕ → ℕ → List ℕ
-with_zeros bytes i n = take i bytes ++ (replicate n 0 ++ drop (i + n) bytes)
 
 -- The message frame as a handler finds it: type, sender, receiver, 0 for a short message, its byte and its
 -- word low byte first, and nothing more.
@@ -129,11 +142,8 @@ dispatched p state m =
 
 -- At the beginning every byte and register is 0. (Of the kernel's bytes and of the stack the first turns
 -- leave nothing that this says, since they are free.)
-unfoldable pub no_bytes : List ℕ
-no_bytes = replicate ram_bytes 0
-
 abbrev pub no_processor : Processor
-no_processor = record { registers = replicate register_count 0; sreg = 0; sp = 0; memory = no_bytes }
+no_processor = without_counter no_counting_processor
 
 abbrev pub no_kernel : KernelState
 no_kernel =

@@ -1,7 +1,14 @@
 //! The laws of the machine. Each stands over the definitions alone.
 ghost use Rattle.domain_model.specs.Facts.{ChoicesAreFounded};
 ghost use Rattle.domain_model.specs.Files.{FilesAreAsPrepared};
-ghost use Rattle.domain_model.specs.Laws.{TurnsAreLawful, RunsAreLawful, RunsEnd};
+ghost use Rattle.domain_model.specs.Laws.{CounterComesBack, UnitsActAsInstructions, TurnsAreLawful, RunsAreLawful, RunsEnd};
+
+/// Law: a unit's instruction does what the processor does by it wherever its program counter stands, for one that leads to
+/// the next instruction; and a program counter is all that the processor of this machine lacks.
+pub fn units_act_as_instructions()
+    ensures counter { CounterComesBack }
+    ensures effect { UnitsActAsInstructions }
+{}
 
 /// Law: which turn comes, in words. Outside a handler an event that is due comes; else a message that waits is
 /// dispatched; else the clock jumps to the next event; else the run ends. In a handler the run ends where its budget is

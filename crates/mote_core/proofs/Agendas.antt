@@ -1,5 +1,5 @@
 -- The loader's events among those that were looked at.
-use Rattle.std.specs.Prelude.{ℕ, ◌≡◌, ◌++◌, List, [], ◌∷◌, Option, Some, None}
+use Rattle.std.specs.Prelude.{◌≡◌, ◌++◌, List, [], ◌∷◌, Option, Some, None}
 use Rattle.std.proofs.Common.{refl, ap, ◌∙◌}
 use Rattle.domain_model.specs.declared.event.LoaderEvent.{LoaderEvent}
 use Rattle.domain_model.specs.declared.script.Event.{Event}

@@ -8,7 +8,7 @@ ghost use Rattle.domain_model.specs.Turn.{module_named, free_domain, given, begu
 ghost use Rattle.mote_base.specs.Messages.{front, without_front, unnamed};
 ghost use Rattle.mote_core.specs.Kernel.{given_as, with_memory_and_blocks};
 
-use crate::avr_machine::Cpu;
+use crate::cpu::Cpu;
 use crate::loaded::{Loaded, ModuleRow};
 use crate::modules::Modules;
 use crate::sos_heap::{Blocks, block_address};

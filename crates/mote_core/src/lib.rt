@@ -3,13 +3,13 @@
 //! `Mote::turn` is a turn of the machine of domains and writes its lines; `Mote::new` gives the state in which
 //! a run begins. `Ready` is an image that was prepared for its load.
 //!
-//! Parts that are to be crates of their own stand here as private modules under the crates' names:
-//! `avr_machine` is the processor, `sos_heap` the owned blocks, `kernel_call` the kernel, `unit_run`
-//! runs units, and `mod_loader` prepares images, whose fields `module_image` reads and whose units `unit_code`.
+//! `cpu` is the processor. Parts that are to be crates of their own stand here as private modules under the crates'
+//! names: `sos_heap` the owned blocks, `kernel_call` the kernel, `unit_run` runs units, and `mod_loader` prepares
+//! images, whose fields `module_image` reads and whose units `unit_code`.
 #![tactic(auto)]
 
 mod agenda;
-mod avr_machine;
+mod cpu;
 mod kernel_call;
 mod limits;
 mod loaded;

@@ -1,9 +1,9 @@
 //! Runs the units of the loaded modules.
 ghost use Rattle.std.specs.Prelude.{◌≡◌, ◌<◌, ◌≤◌, ◌+◌, ◌++◌, [], ◌∷◌, length, IfOk, Some, slice_get};
 ghost use Rattle.mote_layout.specs.Limits.{turn_lines};
-ghost use Rattle.mote_layout.specs.Memory.{bank_words, domain_count};
+ghost use Rattle.mote_layout.specs.Memory.{bank_words, domain_count, ram_end, ram_start};
 ghost use Rattle.domain_model.specs.State.{no_runner};
-ghost use Rattle.domain_model.specs.Act.{act, act_unit, next_unit, plain_effect, answered, id_at};
+ghost use Rattle.domain_model.specs.Act.{act, act_unit, next_unit, plain_effect, store_address, answered, id_at};
 ghost use Rattle.domain_model.specs.State.{with_processor, register};
 ghost use Rattle.domain_model.specs.Turn.{placed, emptied, entered};
 ghost use Rattle.domain_model.specs.Units.{IsBuilt};
@@ -162,17 +162,11 @@ impl PlainRunner {
         ensures runner { self.new ≡ (act_unit (Unit.Store instruction.now) run.now k.old self.old).runner }
         ensures ending { result ≡ (act_unit (Unit.Store instruction.now) run.now k.old self.old).ending }
     {
-        let address = k.cpu().pair(POINTER_X);
+        let address = store_address(k, instruction);
         if !k.may_store(run, address) {
             return fault(Rule::Store, address);
         }
-        match *instruction {
-            Instr::StX(r) => {
-                let value = k.cpu().register(r);
-                k.store(address, value);
-            }
-            _ => unreachable!(),
-        }
+        store_byte(k, instruction, address);
         self.go_on()
     }
 
@@ -264,6 +258,7 @@ fn say(run: &Running, k: &mut Kernel, lines: &mut Lines)
 }
 
 // A load of a constant, or a copy of a register.
+#[tactic(auto, using(domain_model::proofs::InstructionLaws::plain_effects))]
 fn plain(k: &mut Kernel, instruction: &Instr)
     requires { IsBuilt (Unit.Plain instruction.now) }
     ensures { k.new ≡ with_processor k.old (plain_effect instruction.now k.old.processor) }
@@ -273,6 +268,36 @@ fn plain(k: &mut Kernel, instruction: &Instr)
         Instr::Mov(d, r) => {
             let value = k.cpu().register(r);
             k.set_register(d, value);
+        }
+        _ => unreachable!(),
+    }
+}
+
+// The address that a store writes: X as it stands.
+#[tactic(auto, using(domain_model::proofs::InstructionLaws::stx_address))]
+fn store_address(k: &Kernel, instruction: &Instr) -> u16
+    requires { IsBuilt (Unit.Store instruction.now) }
+    ensures { result ≡ store_address instruction.now k.now.processor }
+{
+    match *instruction {
+        Instr::StX(_) => k.cpu().pair(POINTER_X),
+        _ => unreachable!(),
+    }
+}
+
+// Writes the byte of a store to its address.
+#[tactic(auto, using(domain_model::proofs::InstructionLaws::stx_effect))]
+fn store_byte(k: &mut Kernel, instruction: &Instr, address: u16)
+    requires built { IsBuilt (Unit.Store instruction.now) }
+    requires address { address ≡ store_address instruction.now k.old.processor }
+    requires low { ram_start ≤ address }
+    requires high { address ≤ ram_end }
+    ensures { k.new ≡ with_processor k.old (plain_effect instruction.now k.old.processor) }
+{
+    match *instruction {
+        Instr::StX(r) => {
+            let value = k.cpu().register(r);
+            k.store(address, value);
         }
         _ => unreachable!(),
     }

@@ -1,7 +1,7 @@
 use Rattle.std.proofs.Common.{ℕ, List, length, ap, arith}
 use Rattle.std.proofs.lemmas.List.{length-take}
 use Rattle.mote_layout.specs.Memory.{message_frame_bytes}
-use Rattle.mote_core.proofs.avr_machine.write_frame.Goals as goal
+use Rattle.mote_core.proofs.cpu.write_frame.Goals as goal
 
 pub slice_bounds-copy_from_slice-end-2 : goal.slice_bounds-copy_from_slice-end-2
 slice_bounds-copy_from_slice-end-2 c = omega (arith, c.requires, length-take message_frame_bytes c.args.memory.now)

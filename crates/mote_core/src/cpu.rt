@@ -1,7 +1,7 @@
 //! The processor: registers, status, stack pointer and memory.
 ghost use Rattle.std.specs.Prelude.{◌≡◌, ◌<◌, ◌≤◌, ◌+◌, ◌-◌, ◌++◌, drop, length, IfOk};
 ghost use Rattle.mote_layout.specs.Memory.{message_frame_bytes, ram_bytes, ram_end, ram_start, register_count};
-ghost use Rattle.domain_model.specs.State.{no_bytes, no_processor, register, with_register, pair, with_pair, with_byte, with_zeros, dispatched, frame_of};
+ghost use Rattle.domain_model.specs.State.{no_memory, no_processor, register, with_register, pair, with_pair, with_byte, with_zeros, dispatched, frame_of};
 
 use mote_base::{Msg, NoMemory};
 use mote_layout::{MESSAGE_FRAME, MESSAGE_FRAME_BYTES, RAM_BYTES, RAM_START, REGISTERS, STACK_TOP};
@@ -130,7 +130,7 @@ impl Cpu {
 }
 
 fn zeros(alloc: Global) -> Result<Vec<u8>, NoMemory>
-    ensures items { IfOk result (λ v. v.items ≡ no_bytes) }
+    ensures items { IfOk result (λ v. v.items ≡ no_memory) }
     ensures len { IfOk result (λ v. length v.items ≡ ram_bytes) }
 {
     Ok(vec![in alloc; 0; RAM_BYTES]?)

@@ -1,7 +1,7 @@
 use Rattle.std.proofs.Common.{rules}
-use Rattle.domain_model.specs.State.{no_bytes}
-use Rattle.mote_core.proofs.avr_machine.zeros.Goals as goal
+use Rattle.domain_model.specs.State.{no_memory}
+use Rattle.mote_core.proofs.cpu.zeros.Goals as goal
 
 pub returns-clause-items : goal.returns-clause-items
-unfolding no_bytes
+unfolding no_memory
 returns-clause-items c = search rules
