@@ -7,4 +7,8 @@ pub enum Kind {
     Run,
     /// List the units of an image.
     Listing,
+    /// Write an image in the second version of the format.
+    Upgrade,
+    /// Write an image that is sealed.
+    Seal,
 }

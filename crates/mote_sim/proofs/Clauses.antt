@@ -5,14 +5,15 @@ use Rattle.mote_base.specs.Files.{Named}
 use Rattle.mote_base.specs.Written.{Grows}
 use Rattle.mote_base.specs.declared.fault.Status.{Status}
 use Rattle.mote_base.specs.declared.fault.Status.TheVariants.{Done, Usage, Refused, ReadFault, WriteFault, NoMemory}
-use Rattle.domain_model.specs.declared.request.Kind.TheVariants.{Run, Listing}
+use Rattle.domain_model.specs.declared.request.Kind.TheVariants.{Run, Listing, Upgrade, Seal}
 use Rattle.domain_model.specs.Command.{Command}
-use Rattle.mote_sim.specs.Clauses.{WritesRun, WritesListing, Refuses, HasStatus, WritesFront}
+use Rattle.mote_sim.specs.Clauses.{WritesRun, WritesListing, WritesUpgrade, WritesSeal, Refuses, HasStatus, WritesFront}
 use Rattle.mote_sim.specs.Ending.{Ends, Answered, CutOff, IsAnswer}
 use Rattle.mote_sim.specs.Reading.{Gathered}
 use Rattle.mote_sim.specs.Outcome.{outcome, Answers, AnswersOver, usage_line}
 use Rattle.mote_sim.proofs.Counts.{HasItsFiles}
-use Rattle.mote_sim.proofs.Inversion.{over_told, writes_run, writes_listing, usage_answers, refuses, has_status}
+use Rattle.mote_sim.proofs.Inversion.{over_told, writes_run, usage_answers, refuses, has_status}
+use Rattle.mote_sim.proofs.OneImage.{writes_listing, writes_upgrade, writes_seal}
 
 -- What Done says where the shelf tells its files and the sink its bytes.
 record IsDone (command : Option Command) (fs : List Named) (before : List ℕ) (new : Option (List ℕ)) : Type 0 where
@@ -38,6 +39,16 @@ pub listing : {K : Type 0} (w : K → Option (List ℕ)) (f : K → ℕ) (l : K 
 listing w f l a b m n files came command s few ends is names fs before asks told known =
     let e = done w f l a b m n files came command s ends is fs before told known in
     writes_listing fs names e.text before (w b) (few _ asks) (subst (λ c. Answers (outcome c fs) Done e.text) asks e.answer) e.written
+
+pub upgrading : {K : Type 0} (w : K → Option (List ℕ)) (f : K → ℕ) (l : K → List ℕ → Bool → K → Type 0) (a b : K) (m n : ℕ) (files : Option (List Named)) (came : Command → Gathered → Type 0) (command : Option Command) (s : Status) → ((c : Command) → command ≡ Some c → HasItsFiles c) → Ends w f l a b m n (AnswersOver files came command) s → s ≡ Done → (names : List (List ℕ)) (fs : List Named) (before : List ℕ) → command ≡ Some (record { kind = Upgrade; files = names }) → files ≡ Some fs → w a ≡ Some before → WritesUpgrade names fs before (w b)
+upgrading w f l a b m n files came command s few ends is names fs before asks told known =
+    let e = done w f l a b m n files came command s ends is fs before told known in
+    writes_upgrade fs names e.text before (w b) (few _ asks) (subst (λ c. Answers (outcome c fs) Done e.text) asks e.answer) e.written
+
+pub sealing : {K : Type 0} (w : K → Option (List ℕ)) (f : K → ℕ) (l : K → List ℕ → Bool → K → Type 0) (a b : K) (m n : ℕ) (files : Option (List Named)) (came : Command → Gathered → Type 0) (command : Option Command) (s : Status) → ((c : Command) → command ≡ Some c → HasItsFiles c) → Ends w f l a b m n (AnswersOver files came command) s → s ≡ Done → (names : List (List ℕ)) (fs : List Named) (before : List ℕ) → command ≡ Some (record { kind = Seal; files = names }) → files ≡ Some fs → w a ≡ Some before → WritesSeal names fs before (w b)
+sealing w f l a b m n files came command s few ends is names fs before asks told known =
+    let e = done w f l a b m n files came command s ends is fs before told known in
+    writes_seal fs names e.text before (w b) (few _ asks) (subst (λ c. Answers (outcome c fs) Done e.text) asks e.answer) e.written
 
 pub usage : {K : Type 0} (w : K → Option (List ℕ)) (f : K → ℕ) (l : K → List ℕ → Bool → K → Type 0) (a b : K) (m n : ℕ) (files : Option (List Named)) (came : Command → Gathered → Type 0) (command : Option Command) (s : Status) → Ends w f l a b m n (AnswersOver files came command) s → s ≡ Usage → (command ≡ None) × Grows (w a) (w b) usage_line
 usage w f l a b m n files came command s ends is =

@@ -1,11 +1,11 @@
 -- How many files a command has.
 use Rattle.std.proofs.Common.{◌≡◌, ℕ, ◌+◌, ◌≤◌, suc, refl, subst, arith, Bool, true, false, if◌then◌else◌, List, [], ◌∷◌, length, Option, Some, None}
-use Rattle.std.specs.Prelude.{IsTrue, nat_le}
+use Rattle.std.specs.Prelude.{IsTrue, nat_le, ◌==◌}
 use Rattle.std.specs.List.{list_any}
 use Rattle.std.proofs.lemmas.Bool.{leb-true, eqb-true}
 use Rattle.mote_layout.specs.Limits.{images_limit}
 use Rattle.domain_model.specs.declared.request.Kind.{Kind}
-use Rattle.domain_model.specs.declared.request.Kind.TheVariants.{Run, Listing}
+use Rattle.domain_model.specs.declared.request.Kind.TheVariants.{Run}
 use Rattle.domain_model.specs.Command.{Command, takes, is_option, kind_of, with_files, command_of}
 use Rattle.mote_sim.proofs.Images.{both_true}
 
@@ -39,6 +39,6 @@ pub most_images : (n : ℕ) → IsTrue (takes Run (suc n)) → n ≤ images_limi
 most_images n is =
     let high = leb-true (suc n) (1 + images_limit) (both_true (nat_le 2 (suc n)) (nat_le (suc n) (1 + images_limit)) is).1 in omega (arith, high)
 
--- A listing has no second image.
-pub one_alone : (n : ℕ) → IsTrue (takes Listing (suc (suc n))) → ⊥
+-- A command of one file has no second one.
+pub one_alone : (n : ℕ) → IsTrue (suc (suc n) == 1) → ⊥
 one_alone n is = let e = eqb-true (suc (suc n)) 1 is in absurd (omega (arith, e))

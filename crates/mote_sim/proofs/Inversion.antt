@@ -1,5 +1,5 @@
 -- What an answer says of the files and of the words.
-use Rattle.std.proofs.Common.{◌≡◌, ◌∙◌, ℕ, zero, suc, ◌+◌, ◌≤◌, refl, sym, ap, subst, arith, Bool, ◌&&◌, true, false, nat_lt, if◌then◌else◌, List, [], ◌∷◌, ◌++◌, length, Option, Some, None, Result, Ok, Err}
+use Rattle.std.proofs.Common.{◌≡◌, ◌∙◌, ℕ, zero, suc, ◌+◌, ◌≤◌, refl, sym, ap, subst, arith, Bool, ◌&&◌, ◌||◌, true, false, nat_lt, ◌==◌, if◌then◌else◌, List, [], ◌∷◌, ◌++◌, length, Option, Some, None, Result, Ok, Err}
 use Rattle.std.proofs.Math.Dec.{eqb-suc-zero}
 use Rattle.std.proofs.lemmas.Bool.{ltb-false}
 use Rattle.mote_base.specs.Files.{Named, held}
@@ -8,25 +8,24 @@ use Rattle.mote_base.specs.declared.fault.Status.{Status}
 use Rattle.mote_base.specs.declared.fault.Status.TheVariants.{Done, Usage, Refused}
 use Rattle.mote_layout.specs.Limits.{script_limit, image_limit}
 use Rattle.unit_code.specs.declared.error.CodeError.{CodeError}
-use Rattle.unit_code.specs.Units.{refusal, listed}
+use Rattle.unit_code.specs.Units.{refusal}
 use Rattle.module_image.specs.declared.error.ImageError.{ImageError}
-use Rattle.module_image.specs.Contents.{Contents}
+use Rattle.module_image.specs.Contents.{Contents, first_version}
 use Rattle.module_image.specs.Reading.{image_of}
 use Rattle.domain_model.specs.declared.script.Event.{Event}
 use Rattle.domain_model.specs.declared.request.Kind.{Kind}
-use Rattle.domain_model.specs.declared.request.Kind.TheVariants.{Run, Listing}
+use Rattle.domain_model.specs.declared.request.Kind.TheVariants.{Run, Listing, Upgrade, Seal}
 use Rattle.domain_model.specs.Command.{Command, limit_of}
 use Rattle.domain_model.specs.Prepared.{marks_of}
 use Rattle.domain_model.specs.Loader.{are_for_loader}
 use Rattle.event_script.specs.declared.error.ScriptError.{ScriptError}
 use Rattle.event_script.specs.Refusals.{refusal_of, events_of}
 use Rattle.domain_model.specs.State.{Input}
-use Rattle.mote_sim.specs.Clauses.{AreImages, WritesRun, WritesListing, Refuses, HasStatus}
-use Rattle.mote_sim.specs.Listing.{listing_text}
-use Rattle.mote_sim.specs.Outcome.{Outcome, NoCommand, Unheld, TooLong, BadScript, Unbuilt, Runs, BadImage, BadCode, Lists, outcome, outcome_of, outcome_by, outcome_with, outcome_of_script, outcome_of_code, outcome_of_contents, outcome_of_image, Answers, MayFind, AnswersOver, usage_line}
+use Rattle.mote_sim.specs.Clauses.{AreImages, WritesRun, Refuses, HasStatus}
+use Rattle.mote_sim.specs.Outcome.{Outcome, NoCommand, Unheld, TooLong, BadScript, Unbuilt, Runs, BadImage, BadCode, Lists, IsUpgraded, IsAlready, Writes, outcome, outcome_of, outcome_by, outcome_with, outcome_of_script, outcome_of_code, outcome_of_contents, outcome_of_image, outcome_of_first, outcome_of_upgrading, outcome_of_original, outcome_of_sealing, Answers, MayFind, AnswersOver, usage_line}
 use Rattle.mote_sim.specs.Reading.{Gathered, Whole, Longer, Missing, gathered_from, gathered_file, with_first}
 use Rattle.mote_sim.specs.Trace.{IsTraceOf, run_input, are_built, input_with, input_of}
-use Rattle.mote_sim.proofs.Counts.{HasItsFiles, one_at_least, most_images, one_alone}
+use Rattle.mote_sim.proofs.Counts.{HasItsFiles, one_at_least, most_images}
 use Rattle.mote_sim.proofs.Images.{each_built}
 
 -- Where the shelf tells its files, what answers over the shelf answers for them.
@@ -38,7 +37,7 @@ pub over_told : (files : Option (List Named)) (came : Command → Gathered → T
 over_told files came command fs s text told a = subst (λ found. Answers found s text) (found_is files came command fs a.found told a.may) a.answer
 
 -- The first of files that are all whole is held, and within its limit.
-record First (limit : ℕ) (content : Option (List ℕ)) (others : Gathered) (files : List (List ℕ)) : Type 0 where
+pub record First (limit : ℕ) (content : Option (List ℕ)) (others : Gathered) (files : List (List ℕ)) : Type 0 where
   pub bytes : List ℕ
   pub held : content ≡ Some bytes
   pub fits : length bytes ≤ limit
@@ -56,17 +55,17 @@ first_within : (test : Bool) (number limit : ℕ) (bytes : List ℕ) (others : G
 first_within true number limit bytes others files is e = absurd (cc)
 first_within false number limit bytes others files is e = first_whole limit bytes others files (ltb-false limit (length bytes) is) e
 
-first_of : (number limit : ℕ) (content : Option (List ℕ)) (others : Gathered) (files : List (List ℕ)) → gathered_file number limit content others ≡ Whole files → First limit content others files
+pub first_of : (number limit : ℕ) (content : Option (List ℕ)) (others : Gathered) (files : List (List ℕ)) → gathered_file number limit content others ≡ Whole files → First limit content others files
 first_of number limit None others files e = absurd (cc)
 first_of number limit (Some bytes) others files e = first_within (nat_lt limit (length bytes)) number limit bytes others files refl e
 
 -- Files that are answered by Done are all whole.
-record AllWhole (kind : Kind) (found : Gathered) (text : List ℕ) : Type 0 where
+pub record AllWhole (kind : Kind) (found : Gathered) (text : List ℕ) : Type 0 where
   pub files : List (List ℕ)
   pub is : found ≡ Whole files
   pub answer : Answers (outcome_by kind files) Done text
 
-all_whole : (kind : Kind) (found : Gathered) (text : List ℕ) → Answers (outcome_of kind found) Done text → AllWhole kind found text
+pub all_whole : (kind : Kind) (found : Gathered) (text : List ℕ) → Answers (outcome_of kind found) Done text → AllWhole kind found text
 all_whole kind (Whole files) text a = record { files = files; is = refl; answer = a }
 all_whole kind (Longer n) text a = let e : Done ≡ Refused = a.0 in absurd (cc)
 all_whole kind Missing text a = absurd a
@@ -134,60 +133,6 @@ writes_run fs (s ∷ names) text before new few a written =
       written = written ∙ ap (λ t. Some (before ++ t)) b.trace.spelled;
     }
 
--- Code whose units are listed is not refused.
-record Accepted (c : Contents) (refused : Option CodeError) (text : List ℕ) : Type 0 where
-  pub none : refused ≡ None
-  pub is : text ≡ listing_text (listed c.code (marks_of c) c.sealed)
-
-accepted : (c : Contents) (refused : Option CodeError) (text : List ℕ) → Answers (outcome_of_code c refused) Done text → Accepted c refused text
-accepted c (Some error) text a = let e : Done ≡ Refused = a.0 in absurd (cc)
-accepted c None text a = record { none = refl; is = a.1 }
-
-record Original (rewritten : Bool) (c : Contents) (text : List ℕ) : Type 0 where
-  pub is : rewritten ≡ false
-  pub code : Accepted c (refusal c.code (marks_of c) c.sealed) text
-
-original : (rewritten : Bool) (c : Contents) (text : List ℕ) → Answers (outcome_of_contents rewritten c) Done text → Original rewritten c text
-original true c text a = let e : Done ≡ Refused = a.0 in absurd (cc)
-original false c text a = record { is = refl; code = accepted c (refusal c.code (marks_of c) c.sealed) text a }
-
-record Image (read : Result Contents ImageError) (text : List ℕ) : Type 0 where
-  pub contents : Contents
-  pub is : read ≡ Ok contents
-  pub original : Original contents.rewritten contents text
-
-image : (read : Result Contents ImageError) (text : List ℕ) → Answers (outcome_of_image read) Done text → Image read text
-image (Err error) text a = let e : Done ≡ Refused = a.0 in absurd (cc)
-image (Ok c) text a = record { contents = c; is = refl; original = original c.rewritten c text a }
-
-image_from : (files rest : List (List ℕ)) (bytes text : List ℕ) → files ≡ bytes ∷ rest → Whole [] ≡ Whole rest → Answers (outcome_by Listing files) Done text → Image (image_of bytes) text
-image_from files rest bytes text is none a =
-    let alone : files ≡ bytes ∷ [] = cc in
-    image (image_of bytes) text (subst (λ xs. Answers (outcome_by Listing xs) Done text) alone a)
-
--- The one file holds the image.
-listing_of : (fs : List Named) (name text before : List ℕ) (new : Option (List ℕ)) (bytes : List ℕ) → held fs name ≡ Some bytes → length bytes ≤ limit_of Listing 0 → Image (image_of bytes) text → new ≡ Some (before ++ text) → WritesListing (name ∷ []) fs before new
-listing_of fs name text before new bytes holds fits i written = record {
-  image_name = name;
-  named = refl;
-  image = bytes;
-  image_held = holds;
-  image_fits = fits;
-  contents = i.contents;
-  contents_are = i.is;
-  original = i.original.is;
-  accepted = i.original.code.none;
-  written = written ∙ ap (λ t. Some (before ++ t)) i.original.code.is;
-}
-
-pub writes_listing : (fs : List Named) (names : List (List ℕ)) (text before : List ℕ) (new : Option (List ℕ)) → HasItsFiles (record { kind = Listing; files = names }) → Answers (outcome_of Listing (gathered_from Listing 0 fs names)) Done text → new ≡ Some (before ++ text) → WritesListing names fs before new
-writes_listing fs [] text before new few a written = absurd a
-writes_listing fs (name ∷ []) text before new few a written =
-    let w = all_whole Listing (gathered_from Listing 0 fs (name ∷ [])) text a in
-    let one = first_of 0 (limit_of Listing 0) (held fs name) (Whole []) w.files w.is in
-    listing_of fs name text before new one.bytes one.held one.fits (image_from w.files one.rest one.bytes text one.files_are one.others_are w.answer) written
-writes_listing fs (name ∷ other ∷ names) text before new few a written = absurd (one_alone (length names) few)
-
 -- Usage answers no command alone.
 usage_outcome : (found : Outcome) (text : List ℕ) → Answers found Usage text → (found ≡ NoCommand) × (text ≡ usage_line)
 usage_outcome NoCommand text a = (refl, a.1)
@@ -199,6 +144,9 @@ usage_outcome (Runs i) text a = let e : Usage ≡ Done = a.0 in absurd (cc)
 usage_outcome (BadImage error) text a = let e : Usage ≡ Refused = a.0 in absurd (cc)
 usage_outcome (BadCode error) text a = let e : Usage ≡ Refused = a.0 in absurd (cc)
 usage_outcome (Lists l) text a = let e : Usage ≡ Done = a.0 in absurd (cc)
+usage_outcome IsUpgraded text a = let e : Usage ≡ Refused = a.0 in absurd (cc)
+usage_outcome IsAlready text a = let e : Usage ≡ Refused = a.0 in absurd (cc)
+usage_outcome (Writes c) text a = let e : Usage ≡ Done = a.0 in absurd (cc)
 
 with_is_command : (i : Option Input) → outcome_with i ≡ NoCommand → ⊥
 with_is_command None e = cc
@@ -220,12 +168,34 @@ image_is_command : (read : Result Contents ImageError) → outcome_of_image read
 image_is_command (Err error) e = cc
 image_is_command (Ok c) e = contents_is_command c.rewritten c e
 
+first_is_command : (first : Bool) (c : Contents) → outcome_of_first first c ≡ NoCommand → ⊥
+first_is_command true c e = cc
+first_is_command false c e = cc
+
+upgrading_is_command : (read : Result Contents ImageError) → outcome_of_upgrading read ≡ NoCommand → ⊥
+upgrading_is_command (Err error) e = cc
+upgrading_is_command (Ok c) e = first_is_command (c.version == first_version) c e
+
+original_is_command : (already : Bool) (c : Contents) → outcome_of_original already c ≡ NoCommand → ⊥
+original_is_command true c e = cc
+original_is_command false c e = cc
+
+sealing_is_command : (read : Result Contents ImageError) → outcome_of_sealing read ≡ NoCommand → ⊥
+sealing_is_command (Err error) e = cc
+sealing_is_command (Ok c) e = original_is_command (c.rewritten || c.sealed) c e
+
 by_is_command : (kind : Kind) (files : List (List ℕ)) → outcome_by kind files ≡ NoCommand → ⊥
 by_is_command Run [] e = cc
 by_is_command Run (script ∷ images) e = script_is_command (refusal_of (length images) script) (events_of script) images e
 by_is_command Listing [] e = cc
 by_is_command Listing (file ∷ []) e = image_is_command (image_of file) e
 by_is_command Listing (file ∷ other ∷ files) e = cc
+by_is_command Upgrade [] e = cc
+by_is_command Upgrade (file ∷ []) e = upgrading_is_command (image_of file) e
+by_is_command Upgrade (file ∷ other ∷ files) e = cc
+by_is_command Seal [] e = cc
+by_is_command Seal (file ∷ []) e = sealing_is_command (image_of file) e
+by_is_command Seal (file ∷ other ∷ files) e = cc
 
 is_command : (kind : Kind) (found : Gathered) → outcome_of kind found ≡ NoCommand → ⊥
 is_command kind (Whole files) e = by_is_command kind files e
@@ -251,6 +221,9 @@ refuses (Runs i) text old new a grows = let e : Refused ≡ Done = a.0 in absurd
 refuses (BadImage error) text old new a grows = subst (λ t. Grows old new t) a.1 grows
 refuses (BadCode error) text old new a grows = subst (λ t. Grows old new t) a.1 grows
 refuses (Lists l) text old new a grows = let e : Refused ≡ Done = a.0 in absurd (cc)
+refuses IsUpgraded text old new a grows = subst (λ t. Grows old new t) a.1 grows
+refuses IsAlready text old new a grows = subst (λ t. Grows old new t) a.1 grows
+refuses (Writes c) text old new a grows = let e : Refused ≡ Done = a.0 in absurd (cc)
 
 -- Each answer has the status of its outcome.
 pub has_status : (found : Outcome) (s : Status) (text : List ℕ) → Answers found s text → HasStatus found s
@@ -263,3 +236,6 @@ has_status (Runs i) s text a = a.0
 has_status (BadImage error) s text a = a.0
 has_status (BadCode error) s text a = a.0
 has_status (Lists l) s text a = a.0
+has_status IsUpgraded s text a = a.0
+has_status IsAlready s text a = a.0
+has_status (Writes c) s text a = a.0

@@ -6,6 +6,7 @@ pub mod Gather
 pub mod Images
 pub mod Counts
 pub mod Inversion
+pub mod OneImage
 pub mod Prepared
 pub mod SomeBytes
 pub mod Calls

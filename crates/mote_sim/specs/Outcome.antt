@@ -1,12 +1,13 @@
 -- What the program has to answer.
-use Rattle.std.specs.Prelude.{◌≡◌, ℕ, Bool, true, false, List, [], ◌∷◌, ◌++◌, length, codes, Option, Some, None, unwrap_or, Result, Ok, Err}
+use Rattle.std.specs.Prelude.{◌≡◌, ℕ, ◌||◌, ◌==◌, Bool, true, false, List, [], ◌∷◌, ◌++◌, length, codes, Option, Some, None, unwrap_or, Result, Ok, Err}
 use Rattle.mote_base.specs.Files.{Named}
 use Rattle.mote_base.specs.declared.fault.Status.{Status}
 use Rattle.mote_base.specs.declared.fault.Status.TheVariants.{Done, Usage, Refused}
 use Rattle.module_image.specs.declared.error.ImageError.{ImageError}
-use Rattle.module_image.specs.Contents.{Contents}
+use Rattle.module_image.specs.Contents.{Contents, first_version, second_version}
 use Rattle.module_image.specs.Reading.{image_of}
 use Rattle.module_image.specs.Refusal.{number_of, value_of}
+use Rattle.module_image.specs.Spelling.{Image}
 use Rattle.unit_code.specs.declared.error.CodeError.{CodeError}
 use Rattle.unit_code.specs.Errors.{error_number, error_word, error_kind}
 use Rattle.unit_code.specs.Listing.{Listing}
@@ -26,8 +27,9 @@ use Rattle.mote_sim.specs.Reading.{Gathered, Whole, Longer, Missing, gathered}
 use Rattle.mote_sim.specs.Trace.{IsTraceOf, input_of}
 
 -- The words are no command; a file of the command isn't held; the file with that number is longer than its
--- limit; the first file is no script; the script or an image is not built; this input is run; the file to list is no image; its code has no
--- units; or these units are listed.
+-- limit; the first file is no script; the script or an image is not built; this input is run; the one file of
+-- the other commands is no image; its code has no units; these units are listed; the image to upgrade is of the second version; the
+-- image to seal is rewritten or sealed already; or the image of these contents is written.
 pub data Outcome : Type 0 where
   NoCommand : Outcome
   Unheld : Outcome
@@ -38,6 +40,9 @@ pub data Outcome : Type 0 where
   BadImage : ImageError → Outcome
   BadCode : CodeError → Outcome
   Lists : Listing → Outcome
+  IsUpgraded : Outcome
+  IsAlready : Outcome
+  Writes : Contents → Outcome
 
 abbrev pub outcome_with : Option Input → Outcome
 outcome_with None = Unbuilt
@@ -63,13 +68,57 @@ abbrev pub outcome_of_image : Result Contents ImageError → Outcome
 outcome_of_image (Err e) = BadImage e
 outcome_of_image (Ok c) = outcome_of_contents c.rewritten c
 
--- By the bytes of a command's files: of `run` a script and its images, of `list` an image. (No command has other
--- numbers of files.)
+-- The same image in the second version of the format, but for the seal and the constants.
+abbrev pub in_second : Contents → Bool → List ℕ → Contents
+in_second c sealed constants =
+    record {
+      face = c.face;
+      version = second_version;
+      rewritten = c.rewritten;
+      sealed = sealed;
+      state_size = c.state_size;
+      handler = c.handler;
+      code = c.code;
+      constants = constants;
+    }
+
+-- What `upgrade` writes: the same flags, and no constants.
+abbrev pub upgraded : Contents → Contents
+upgraded c = in_second c c.sealed []
+
+-- What `seal` writes: the seal, and the same constants.
+abbrev pub with_seal : Contents → Contents
+with_seal c = in_second c true c.constants
+
+-- Whether the image is of the first version.
+abbrev pub outcome_of_first : Bool → Contents → Outcome
+outcome_of_first true c = Writes (upgraded c)
+outcome_of_first false c = IsUpgraded
+
+abbrev pub outcome_of_upgrading : Result Contents ImageError → Outcome
+outcome_of_upgrading (Err e) = BadImage e
+outcome_of_upgrading (Ok c) = outcome_of_first (c.version == first_version) c
+
+-- Whether the image is rewritten or sealed already.
+abbrev pub outcome_of_original : Bool → Contents → Outcome
+outcome_of_original true c = IsAlready
+outcome_of_original false c = Writes (with_seal c)
+
+abbrev pub outcome_of_sealing : Result Contents ImageError → Outcome
+outcome_of_sealing (Err e) = BadImage e
+outcome_of_sealing (Ok c) = outcome_of_original (c.rewritten || c.sealed) c
+
+-- By the bytes of a command's files: of `run` a script and its images, of each other command an image. (No command has
+-- other numbers of files.)
 abbrev pub outcome_by : Kind → List (List ℕ) → Outcome
 outcome_by kinds.Run (script ∷ images) = outcome_of_script (refusal_of (length images) script) (events_of script) images
 outcome_by kinds.Run [] = Unheld
 outcome_by kinds.Listing (file ∷ []) = outcome_of_image (image_of file)
 outcome_by kinds.Listing _ = Unheld
+outcome_by kinds.Upgrade (file ∷ []) = outcome_of_upgrading (image_of file)
+outcome_by kinds.Upgrade _ = Unheld
+outcome_by kinds.Seal (file ∷ []) = outcome_of_sealing (image_of file)
+outcome_by kinds.Seal _ = Unheld
 
 -- The size comes before all that the bytes say.
 abbrev pub outcome_of : Kind → Gathered → Outcome
@@ -87,6 +136,12 @@ usage_line = codes "mote: usage\n"
 
 abbrev pub unbuilt_line : List ℕ
 unbuilt_line = codes "refused unbuilt\n"
+
+abbrev pub upgraded_line : List ℕ
+upgraded_line = codes "refused upgraded\n"
+
+abbrev pub already_line : List ℕ
+already_line = codes "refused already\n"
 
 abbrev pub size_line : ℕ → List ℕ
 size_line number = codes "refused size" ++ field number ++ codes "\n"
@@ -116,6 +171,9 @@ Answers (Runs i) status text = (status ≡ Done) × IsTraceOf i text
 Answers (BadImage e) status text = (status ≡ Refused) × (text ≡ image_line e)
 Answers (BadCode e) status text = (status ≡ Refused) × (text ≡ code_line e)
 Answers (Lists l) status text = (status ≡ Done) × (text ≡ listing_text l)
+Answers IsUpgraded status text = (status ≡ Refused) × (text ≡ upgraded_line)
+Answers IsAlready status text = (status ≡ Refused) × (text ≡ already_line)
+Answers (Writes c) status text = (status ≡ Done) × Image text c
 
 -- The files, read in the order of the words, come to this outcome. Their bytes are what came by the calls of the shelf;
 -- and where it tells its files they are those.

@@ -8,7 +8,7 @@ ghost use Rattle.domain_model.specs.Good.{AreTimes};
 ghost use Rattle.domain_model.specs.Loader.{are_for_loader, is_for_loader, loader_events};
 ghost use Rattle.event_script.specs.Refusals.{events_of, refusal_of};
 ghost use Rattle.mote_sim.specs.Asking.{AsksBy, AsksFront, Came};
-ghost use Rattle.mote_sim.specs.Clauses.{WritesRun, WritesListing, Refuses, HasStatus, WritesFront};
+ghost use Rattle.mote_sim.specs.Clauses.{WritesRun, WritesListing, WritesUpgrade, WritesSeal, Refuses, HasStatus, WritesFront};
 ghost use Rattle.mote_sim.specs.Ending.{Ends, IsAnswer, Answered, CutOff};
 ghost use Rattle.mote_sim.specs.Outcome.{Answers, AnswersOver, outcome, outcome_by, outcome_of_script, outcome_with, usage_line};
 ghost use Rattle.mote_sim.specs.Playing.{AreReady, StandsAt};
@@ -21,6 +21,7 @@ use crate::one_line::{put_answer, put_script, put_size};
 use crate::play::play;
 use crate::reading::{ReadStop, read_files};
 use crate::request::{Request, request_of};
+use crate::sealing::{seal, upgrade};
 use domain_model::{Event, Kind, Lines, What};
 use event_script::{Script, ScriptError, parse_script};
 use mote_base::{NoMemory, Shelf, Sink, Status, Word};
@@ -124,6 +125,14 @@ fn perform<K: Sink>(alloc: Global, kind: Kind, files: &[Vec<u8>], out: &mut K) -
             [file] => list(alloc, file, out),
             _ => unreachable!(),
         },
+        Kind::Upgrade => match files {
+            [file] => upgrade(alloc, file, out),
+            _ => unreachable!(),
+        },
+        Kind::Seal => match files {
+            [file] => seal(alloc, file, out),
+            _ => unreachable!(),
+        },
     }
 }
 
@@ -170,8 +179,9 @@ fn answer<F: Shelf, K: Sink>(alloc: Global, words: &[Word], shelf: &mut F, out: 
 /// Does all that the program does: reads the words, reads the files that they name, and writes the answer.
 ///
 /// The words are those behind the program's name. `run SCRIPT IMAGE..` runs a script over 1 to 64 images, which
-/// it loads and unloads, and writes the trace. `list IMAGE` writes the units of an image, a line for each. All
-/// memory is taken before the first byte is written.
+/// it loads and unloads, and writes the trace. `list IMAGE` writes the units of an image, a line for each. `upgrade IMAGE`
+/// writes the file of an image of the first version in the second, and `seal IMAGE` that of an image which is neither
+/// rewritten nor sealed, sealed. All memory is taken before the first byte is written.
 pub fn mote_main<F: Shelf, K: Sink>(
     alloc: Global,
     words: &[Word],
@@ -182,7 +192,7 @@ pub fn mote_main<F: Shelf, K: Sink>(
     requires { Admits (F.admits shelf.old) (command_of words.now) }
 
     // Done: every file was read whole. Of `run` the bytes added are the trace of a lawful run of them, and of `list`
-    // they are the lines of the units of the image.
+    // they are the lines of the units of the image. Of `upgrade` and `seal` they are the file of the image asked for.
     ensures headline { result ≡ Status.Done → (names : List (List ℕ)) (fs : List Named) (before : List ℕ) →
         command_of words.now ≡ Some (record { kind = Kind.Run; files = names }) →
         F.files shelf.old ≡ Some fs → K.written out.old ≡ Some before →
@@ -191,14 +201,23 @@ pub fn mote_main<F: Shelf, K: Sink>(
         command_of words.now ≡ Some (record { kind = Kind.Listing; files = names }) →
         F.files shelf.old ≡ Some fs → K.written out.old ≡ Some before →
         WritesListing names fs before (K.written out.new) }
+    ensures upgrading { result ≡ Status.Done → (names : List (List ℕ)) (fs : List Named) (before : List ℕ) →
+        command_of words.now ≡ Some (record { kind = Kind.Upgrade; files = names }) →
+        F.files shelf.old ≡ Some fs → K.written out.old ≡ Some before →
+        WritesUpgrade names fs before (K.written out.new) }
+    ensures sealing { result ≡ Status.Done → (names : List (List ℕ)) (fs : List Named) (before : List ℕ) →
+        command_of words.now ≡ Some (record { kind = Kind.Seal; files = names }) →
+        F.files shelf.old ≡ Some fs → K.written out.old ≡ Some before →
+        WritesSeal names fs before (K.written out.new) }
 
     // Usage: the words are no command. No command has another answer, but where the put of its line fails.
     ensures usage { result ≡ Status.Usage → (command_of words.now ≡ None)
         × Grows (K.written out.old) (K.written out.new) usage_line }
     ensures no_command { command_of words.now ≡ None → (result ≡ Status.Usage) ⊎ (result ≡ Status.WriteFault) }
 
-    // Refused: a file is longer than its limit, the script or an image is not built, or `list` finds no image or
-    // code that has no units.
+    // Refused: a file is longer than its limit, the script or an image is not built, the one file of the other commands
+    // is no image, `list` finds code that has no units, `upgrade` an image of the second version, or `seal` one that is
+    // rewritten or sealed already.
     ensures refused { result ≡ Status.Refused → (fs : List Named) → F.files shelf.old ≡ Some fs →
         Refuses (outcome (command_of words.now) fs) (K.written out.old) (K.written out.new) }
 

@@ -42,18 +42,22 @@ fn kind_of(verb: &Word) -> Option<Kind>
         Some(Kind::Run)
     } else if verb.text() == "list" {
         Some(Kind::Listing)
+    } else if verb.text() == "upgrade" {
+        Some(Kind::Upgrade)
+    } else if verb.text() == "seal" {
+        Some(Kind::Seal)
     } else {
         None
     }
 }
 
-/// Whether a command takes so many files: `run` a script and 1 to 64 images, `list` an image.
+/// Whether a command takes so many files: `run` a script and 1 to 64 images, and each other command an image.
 fn takes(kind: Kind, count: usize) -> bool
     ensures { result ≡ takes kind count }
 {
     match kind {
         Kind::Run => (2..=1 + IMAGES).contains(&count),
-        Kind::Listing => count == 1,
+        Kind::Listing | Kind::Upgrade | Kind::Seal => count == 1,
     }
 }
 
@@ -69,7 +73,7 @@ pub fn limit_of(kind: Kind, number: usize) -> usize
                 IMAGE_BYTES
             }
         }
-        Kind::Listing => IMAGE_BYTES,
+        Kind::Listing | Kind::Upgrade | Kind::Seal => IMAGE_BYTES,
     }
 }
 

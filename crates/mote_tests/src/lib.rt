@@ -1,12 +1,15 @@
 //! Tests of the public calls of the machine of domains, the mote and the program.
 //!
 //! - `rows`: runs and listings of `mote_sim`'s top call, with their faults and limits.
+//! - `images`: images that the top call writes by `upgrade` and `seal`.
 //! - `turns`: turns of a mote of `mote_core` under small limits.
 //! - `scripts`: the events of a script of `event_script`, and what refuses it.
 //! - `traces`: the text of each line of a trace of `trace_text`.
 //! - `lines`: the lines that `domain_model` keeps of a turn.
 #![tactic(auto)]
 
+#[cfg(test)]
+mod images;
 #[cfg(test)]
 mod lines;
 #[cfg(test)]

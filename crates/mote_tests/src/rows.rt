@@ -7,7 +7,7 @@ use std::process::Abort;
 use std::test::Fail;
 
 /// Module 1 says byte 65: E481 940E F108 9508.
-const SAYS: &[u8] = b"SOSM\x01\x01\0\0\0\0\0\0\0\x04\0\x81\xE4\x0E\x94\x08\xF1\x08\x95";
+pub(crate) const SAYS: &[u8] = b"SOSM\x01\x01\0\0\0\0\0\0\0\x04\0\x81\xE4\x0E\x94\x08\xF1\x08\x95";
 
 /// Module 1 does nothing first, by an instruction that is not built: 0000 9508.
 const UNBUILT: &[u8] = b"SOSM\x01\x01\0\0\0\0\0\0\0\x02\0\0\0\x08\x95";
@@ -16,7 +16,7 @@ const UNBUILT: &[u8] = b"SOSM\x01\x01\0\0\0\0\0\0\0\x02\0\0\0\x08\x95";
 const SAYS_CUT: &[u8] = b"SOSM\x01\x01\0\0\0\0\0\0\0\x04\0\x81\xE4\x0E\x94\x08\xF1\x08";
 
 /// Module 1 begins with an indirect jump, which is refused: 9409 9508.
-const JUMPS: &[u8] = b"SOSM\x01\x01\0\0\0\0\0\0\0\x02\0\x09\x94\x08\x95";
+pub(crate) const JUMPS: &[u8] = b"SOSM\x01\x01\0\0\0\0\0\0\0\x02\0\x09\x94\x08\x95";
 
 /// Module 1 runs past its end: E481.
 const FALLS_OFF: &[u8] = b"SOSM\x01\x01\0\0\0\0\0\0\0\x01\0\x81\xE4";
@@ -32,7 +32,7 @@ const SKIPS: &[u8] = b"SOSM\x01\x02\0\0\0\0\0\0\0\x03\0\0\xFF\x1C\x93\x08\x95";
 
 /// Module 1 provides function 1 at word 0, subscribes to function 1 of module 2, and says 65 from word 1 on:
 /// 9508 E481 940E F108 9508.
-const HAS_FACE: &[u8] = b"SOSM\x01\x01\0\0\0\x01\0\x01\x01\x05\0\x01iv00\0\0\x02\x01iv00\
+pub(crate) const HAS_FACE: &[u8] = b"SOSM\x01\x01\0\0\0\x01\0\x01\x01\x05\0\x01iv00\0\0\x02\x01iv00\
     \x08\x95\x81\xE4\x0E\x94\x08\xF1\x08\x95";
 
 /// Module 2 stores to register 0: 930C 9508.
@@ -96,7 +96,7 @@ const RETURNS: &[&[u8]] = &[
     b"SOSM\x01\x10\0\0\0\0\0\0\0\x01\0\x08\x95",
 ];
 
-const LOAD: &str = "0 load 0\n";
+pub(crate) const LOAD: &str = "0 load 0\n";
 
 /// Module 1 of the second version, sealed, reads a byte: 9180 0300 9508.
 const SEALED: &[u8] = b"SOSM\x02\x01\x02\0\0\0\0\0\0\x03\0\0\0\x80\x91\0\x03\x08\x95";
@@ -148,7 +148,7 @@ const NAMES: [&str; 16] = [
 ];
 
 /// The shelf holds a script `s` and images from `a` on, and fails at the call with that number.
-fn shelf_with(
+pub(crate) fn shelf_with(
     alloc: Global,
     script: &[u8],
     images: &[&[u8]],
@@ -166,7 +166,7 @@ fn shelf_with(
 
 /// The top call on words that are parted by spaces.
 #[tactic(auto, using(crate::proofs::Admitted::all_admitted))]
-fn answer<W: Sink>(
+pub(crate) fn answer<W: Sink>(
     alloc: Global,
     line: &str,
     shelf: &mut MemShelf,
@@ -180,7 +180,7 @@ fn answer<W: Sink>(
 }
 
 /// A call or put that is never made.
-const NEVER: u32 = 1000;
+pub(crate) const NEVER: u32 = 1000;
 
 /// A call: the words, the script, the images, and what is answered.
 struct Row {
