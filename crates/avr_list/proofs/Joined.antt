@@ -13,7 +13,7 @@ use Rattle.avr_list.specs.declared.operand.Pointer.{Pointer}
 use Rattle.avr_list.specs.declared.operand.Pointer.TheVariants.{X, Y, Z}
 use Rattle.avr_list.specs.declared.operand.Operand.{Operand}
 use Rattle.avr_list.specs.declared.operand.Operand.TheVariants.{Register, Number, At, Raised, Lowered, Behind, Address, Target}
-use Rattle.avr_list.specs.Digits.{word_digits}
+use Rattle.mote_base.specs.Digits.{word_digits}
 use Rattle.avr_list.specs.Operands.{operand_text}
 use Rattle.avr_list.proofs.Said.{Operands, nothing, one, two, joined}
 use Rattle.avr_list.proofs.Ranged.{AreRanged, IsRanged, is_free}

@@ -3,7 +3,7 @@ use Rattle.std.proofs.Common.{◌≡◌, ◌∙◌, ℕ, Bool, List, ◌++◌, s
 use Rattle.std.specs.Prelude.{codes, decimal}
 use Rattle.std.proofs.lemmas.List.{append_cancel_left, append_cancel_right}
 use Rattle.unit_code.specs.declared.unit.Unit.{Unit}
-use Rattle.avr_list.specs.Digits.{word_digits}
+use Rattle.mote_base.specs.Digits.{word_digits}
 use Rattle.avr_list.specs.Laws.{MayStand}
 use Rattle.avr_list.specs.Lines.{listing_line, unit_text}
 use Rattle.avr_list.proofs.Joined.{joined_tells}

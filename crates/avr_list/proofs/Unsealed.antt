@@ -13,7 +13,7 @@ use Rattle.unit_code.specs.Items.{items_of}
 use Rattle.unit_code.specs.Loads.{guarded, is_load, load_where}
 use Rattle.unit_code.specs.Targets.{number_reached, reached}
 use Rattle.unit_code.specs.Units.{places_of, to_unit, unit_at, unit_of, units_of}
-use Rattle.avr_list.specs.Digits.{word_digits}
+use Rattle.mote_base.specs.Digits.{word_digits}
 use Rattle.avr_list.specs.Lines.{listing_from, listing_line, unit_text}
 
 load_text : (b c : Bool) (i : Instr) → unit_text (load_where b i) ≡ unit_text (load_where c i)

@@ -1,4 +1,3 @@
-pub mod Digits
 pub mod Operands
 pub mod Instructions
 pub mod Lines

@@ -2,7 +2,7 @@
 use Rattle.std.specs.Prelude.{ℕ, ◌+◌, true, false, List, [], ◌∷◌, ◌++◌, codes, decimal}
 use Rattle.unit_code.specs.declared.unit.Unit.{Unit}
 use Rattle.unit_code.specs.declared.unit.Unit.TheVariants.{Plain, Store, Load, Push, Pop, SpGroup, Reserve, Skip, Branch, Jump, LocalCall, KernelCall, SlotCall, SlotIndirect, Return}
-use Rattle.avr_list.specs.Digits.{word_digits}
+use Rattle.mote_base.specs.Digits.{word_digits}
 use Rattle.avr_list.specs.Instructions.{instruction_text}
 use Rattle.avr_list.specs.Operands.{register, target, with_operand, with_operands}
 

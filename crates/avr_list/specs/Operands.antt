@@ -1,6 +1,6 @@
 -- The text of operands, and of an instruction with its operands.
 use Rattle.std.specs.Prelude.{ℕ, List, ◌++◌, codes, decimal}
-use Rattle.avr_list.specs.Digits.{word_digits}
+use Rattle.mote_base.specs.Digits.{word_digits}
 use Rattle.avr_list.specs.declared.operand.Pointer.{Pointer}
 use Rattle.avr_list.specs.declared.operand.Pointer.TheVariants.{X, Y, Z}
 use Rattle.avr_list.specs.declared.operand.Operand.{Operand}

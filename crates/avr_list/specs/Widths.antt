@@ -1,12 +1,6 @@
 -- How many bytes a line's parts have at most.
 use Rattle.std.specs.Prelude.{ℕ, ◌+◌}
-
--- a word in decimal, and one in hexadecimal
-abbrev pub number_width : ℕ
-number_width = 5
-
-abbrev pub word_width : ℕ
-word_width = 4
+use Rattle.mote_base.specs.Digits.{short_width}
 
 -- the name of an instruction that has operands
 abbrev pub name_width : ℕ
@@ -14,7 +8,7 @@ name_width = 6
 
 -- an operand: a pointer, a sign and a number
 abbrev pub operand_width : ℕ
-operand_width = 2 + number_width
+operand_width = 2 + short_width
 
 -- a name, a space and an operand; and with a comma and another operand
 abbrev pub one_width : ℕ

@@ -11,9 +11,8 @@ ghost use Rattle.avr_list.specs.Widths.{unit_width};
 use crate::operand::Operand::{Address, At, Behind, Lowered, Number, Raised, Register};
 use crate::operand::Pointer::{X, Y, Z};
 use crate::operand::{add_one, add_two};
-use crate::text::add_text;
 use avr_isa::Instr;
-use mote_base::Line;
+use mote_base::{Line, add_text};
 
 /// Adds an instruction.
 ///

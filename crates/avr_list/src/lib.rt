@@ -10,7 +10,6 @@ mod instruction;
 mod laws;
 mod line;
 mod operand;
-mod text;
 
 pub use laws::{lines_tell, seal_is_unseen};
 pub use line::list_line;

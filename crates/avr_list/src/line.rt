@@ -10,8 +10,7 @@ ghost use Rattle.avr_list.specs.Widths.{unit_width};
 use crate::instruction::add_instruction;
 use crate::operand::Operand::{Number, Register, Target};
 use crate::operand::{add_one, add_two};
-use crate::text::{add_number, add_text, add_word};
-use mote_base::Line;
+use mote_base::{Line, add_short, add_text, add_word};
 use unit_code::Unit;
 
 /// Gives an empty line the text of a unit: its number, the place of its first word, and what it is.
@@ -21,7 +20,7 @@ pub fn list_line(number: u16, place: u16, unit: &Unit, line: &mut Line)
     requires empty { line.old.items ≡ [] }
     ensures text { line.new.items ≡ listing_line number place unit.now }
 {
-    add_number(line, number);
+    add_short(line, number);
     add_text(line, b" ");
     add_word(line, place);
     add_text(line, b" ");

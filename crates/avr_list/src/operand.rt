@@ -4,10 +4,10 @@ ghost use Rattle.std.specs.Prelude.{◌≡◌, ◌≤◌, ◌+◌, ◌++◌, len
 ghost use Rattle.arrayvec.specs.ArrayVec.{array_vec_len};
 ghost use Rattle.mote_base.specs.Lines.{line_bytes};
 ghost use Rattle.avr_list.specs.Operands.{operand_text, pointer_text, with_operand, with_operands};
-ghost use Rattle.avr_list.specs.Widths.{name_width, number_width, one_width, operand_width, unit_width};
+ghost use Rattle.avr_list.specs.Widths.{name_width, one_width, operand_width, unit_width};
+ghost use Rattle.mote_base.specs.Digits.{short_width};
 
-use crate::text::{add_number, add_text, add_word};
-use mote_base::Line;
+use mote_base::{Line, add_short, add_text, add_word};
 
 /// A pair of registers that a load or store goes through.
 #[derive(Clone, Copy)]
@@ -53,13 +53,13 @@ fn add_pointer(line: &mut Line, pointer: Pointer)
 
 /// Adds what stands before an operand's number, and the number.
 fn add_marked(line: &mut Line, mark: &[u8], number: u16)
-    requires room { array_vec_len line.old + 1 + number_width ≤ line_bytes }
+    requires room { array_vec_len line.old + 1 + short_width ≤ line_bytes }
     requires short { length mark.now ≤ 1 }
     ensures items { line.new.items ≡ line.old.items ++ mark.now ++ decimal number }
-    ensures len { array_vec_len line.new ≤ array_vec_len line.old + 1 + number_width }
+    ensures len { array_vec_len line.new ≤ array_vec_len line.old + 1 + short_width }
 {
     add_text(line, mark);
-    add_number(line, number);
+    add_short(line, number);
 }
 
 /// Adds an operand.
@@ -70,7 +70,7 @@ fn add_operand(line: &mut Line, operand: Operand)
 {
     match operand {
         Operand::Register(register) => add_marked(line, b"r", u16::from(register)),
-        Operand::Number(number) => add_number(line, u16::from(number)),
+        Operand::Number(number) => add_short(line, u16::from(number)),
         Operand::At(pointer) => add_pointer(line, pointer),
         Operand::Raised(pointer) => {
             add_pointer(line, pointer);

@@ -14,6 +14,7 @@ const LINKED: [u8; 37] =
 /// The first of them in the second version: as it was, and with three constant bytes behind another code.
 const UPGRADED: [u8; 25] =
     *b"SOSM\x02\x01\x00\x00\x00\x00\x00\x00\x00\x04\x00\x00\x00\x81\xE4\x0E\x94\x08\xF1\x08\x95";
+
 const CONSTANT: [u8; 30] = *b"SOSM\x02\x01\x00\x00\x00\x00\x00\x00\x00\x05\x00\x03\x00\
 \xFA\x01\x81\x81\x0E\x94\x08\xF1\x08\x95ABC";
 
@@ -173,12 +174,18 @@ fn the_second_version_is_read(rt: HostRuntime) -> Result<(), Fail> {
     assert_eq!(rt; (plain.version(), plain.sealed()), (1, false));
     assert_eq!(rt; plain.constants(), b"".as_slice());
     let image = parse(&CONSTANT)?;
-    assert_eq!(rt; (image.version(), image.id(), image.state_size()), (2, 1, 0));
+    assert_eq!(rt;
+        (image.version(), image.id(), image.state_size()),
+        (2, 1, 0)
+    );
     assert!(rt; !image.rewritten());
     assert!(rt; !image.sealed());
     let code = image.code();
     assert_eq!(rt; code.len(), 5);
-    for (i, want) in [0x01FA, 0x8181, 0x940E, 0xF108, 0x9508].into_iter().enumerate() {
+    for (i, want) in [0x01FA, 0x8181, 0x940E, 0xF108, 0x9508]
+        .into_iter()
+        .enumerate()
+    {
         if i < code.len() {
             assert_eq!(rt; code.at(i), want, "word {i}");
         }

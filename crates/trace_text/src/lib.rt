@@ -6,8 +6,10 @@
 
 mod event;
 mod field;
+mod laws;
 mod line;
 mod state;
 
 pub use field::add_field;
+pub use laws::lines_tell;
 pub use line::put_line;
