@@ -1,51 +1,95 @@
-//! A run: the turns of a mote, and the puts of their lines.
-ghost use Rattle.std.specs.Prelude.{◌≡◌};
+//! A run: the turns of a mote, and the puts of their lines in pieces.
+ghost use Rattle.std.specs.Prelude.{◌≡◌, ◌<◌, ◌++◌, OnOk};
+ghost use Rattle.arrayvec.specs.ArrayVec.{array_vec_len};
 ghost use Rattle.mote_base.specs.Written.{Puts};
 ghost use Rattle.domain_model.specs.Good.{Good};
 ghost use Rattle.trace_text.specs.Text.{text, texts};
 ghost use Rattle.mote_sim.specs.Playing.{Plays};
-ghost use Rattle.mote_sim.specs.Pieces.{LeadsBySome};
+ghost use Rattle.mote_sim.specs.Pieces.{LeadsBySome, Moves, piece_bytes};
 
 use arrayvec::ArrayVec;
 use domain_model::{Lines, TraceLine, Turned};
-use mote_base::{Failed, Line, Sink};
+use mote_base::{Failed, LINE_BYTES, Line, Sink};
 use mote_core::Mote;
 use trace_text::put_line;
 
-// Puts a line of the trace by one put.
-fn tell_line<K: Sink>(out: &mut K, told: &TraceLine) -> Result<(), Failed>
-    ensures { Puts K.written K.faults (LeadsBySome K.leads) out.old out.new (text told.now) result }
+// How many bytes a piece of a trace has at least, but for the last piece.
+const PIECE_BYTES: usize = 4096;
+
+// Room for what is less than a piece, and for one line more.
+const GATHERED_BYTES: usize = PIECE_BYTES + LINE_BYTES;
+
+// The text of the lines that were told and not yet put.
+type Gathered = ArrayVec<u8, GATHERED_BYTES>;
+
+// Adds the text of a line to less than a piece.
+fn gather(gathered: &mut Gathered, told: &TraceLine)
+    requires { array_vec_len gathered.old < piece_bytes }
+    ensures { gathered.new.items ≡ gathered.old.items ++ text told.now }
 {
     let mut line: Line = ArrayVec::new();
     put_line(told, &mut line);
-    out.put(line.as_slice())
+    gathered.try_extend_from_slice(line.as_slice()).unwrap();
 }
 
-// Puts the lines in their order, up to the first put that fails.
-fn tell_lines<K: Sink>(out: &mut K, told: &[TraceLine]) -> Result<(), Failed>
-    ensures { Puts K.written K.faults (LeadsBySome K.leads) out.old out.new (texts told.now) result }
+// Puts what is gathered by one put, where there is some.
+fn flush<K: Sink>(out: &mut K, gathered: &Gathered) -> Result<(), Failed>
+    ensures { Puts K.written K.faults (LeadsBySome K.leads) out.old out.new gathered.now.items result }
 {
-    for line in told {
-        tell_line(out, line)?;
+    if gathered.is_empty() {
+        return Ok(());
+    }
+    out.put(gathered.as_slice())
+}
+
+// Puts what is gathered where it makes a piece, and else nothing.
+fn flush_full<K: Sink>(out: &mut K, gathered: &mut Gathered) -> Result<(), Failed>
+    ensures moves { Moves K.written K.faults (LeadsBySome K.leads) out.old out.new
+        gathered.old.items gathered.new.items result }
+    ensures room { OnOk result (array_vec_len gathered.new < piece_bytes) }
+    ensures waits { array_vec_len gathered.old < piece_bytes → out.new ≡ out.old }
+{
+    if gathered.len() >= PIECE_BYTES {
+        flush(out, gathered)?;
+        gathered.clear();
     }
     Ok(())
 }
 
-/// Makes turns of a mote that stands at the start of a run until it ends, and puts their lines. No put
-/// follows one that failed, and no turn either.
+// Gathers the lines in their order and puts each piece that they fill, up to the first put that fails.
+fn tell_lines<K: Sink>(
+    out: &mut K,
+    gathered: &mut Gathered,
+    told: &[TraceLine],
+) -> Result<(), Failed>
+    requires { array_vec_len gathered.old < piece_bytes }
+    ensures moves { Moves K.written K.faults (LeadsBySome K.leads) out.old out.new
+        (gathered.old.items ++ texts told.now) gathered.new.items result }
+    ensures room { OnOk result (array_vec_len gathered.new < piece_bytes) }
+{
+    for line in told {
+        gather(gathered, line);
+        flush_full(out, gathered)?;
+    }
+    Ok(())
+}
+
+/// Makes turns of a mote that stands at the start of a run until it ends, and puts their lines: a piece as soon as
+/// `PIECE_BYTES` are gathered, and at the end what is left. No put follows one that failed, and no turn either.
 pub fn play<K: Sink>(mote: &mut Mote, lines: &mut Lines, out: &mut K) -> Result<(), Failed>
     requires good { Good mote.old }
     requires going { mote.old.ended ≡ Turned.More }
     ensures { Plays K.written K.faults (LeadsBySome K.leads) out.old out.new mote.old result }
 {
+    let mut gathered: Gathered = ArrayVec::new();
     'turns: loop {
         lines.clear();
         let turned = mote.turn(lines);
-        tell_lines(out, lines.items())?;
+        tell_lines(out, &mut gathered, lines.items())?;
         match turned {
             Turned::More => {}
-            Turned::EndIdle => return Ok(()),
-            Turned::EndBudget => return Ok(()),
+            Turned::EndIdle => return flush(out, &gathered),
+            Turned::EndBudget => return flush(out, &gathered),
         }
     }
 }

@@ -609,22 +609,8 @@ fn faults_are_answered_at_each_call(rt: HostRuntime) -> Result<(), Fail> {
         );
         assert_eq!(rt; out.bytes(), text.as_bytes());
     }
-    let puts = [
-        (0, Status::WriteFault, ""),
-        (1, Status::WriteFault, "0 load 1 0 0000\n"),
-        (2, Status::WriteFault, "0 load 1 0 0000\n0 run 1 0 0\n"),
-        (
-            3,
-            Status::WriteFault,
-            "0 load 1 0 0000\n0 run 1 0 0\n1 say 1 65\n",
-        ),
-        (
-            4,
-            Status::WriteFault,
-            "0 load 1 0 0000\n0 run 1 0 0\n1 say 1 65\n2 done 1\n",
-        ),
-        (5, Status::Done, SAID),
-    ];
+    // A trace of less than a piece is one put.
+    let puts = [(0, Status::WriteFault, ""), (1, Status::Done, SAID)];
     for (put, status, text) in puts {
         let mut shelf = shelf_with(alloc, LOAD.as_bytes(), &[SAYS], NEVER)?;
         let mut out = MemSink::new(alloc, 1000, vec![in alloc; put]?)?;
@@ -634,6 +620,42 @@ fn faults_are_answered_at_each_call(rt: HostRuntime) -> Result<(), Fail> {
             "put {put}"
         );
         assert_eq!(rt; out.bytes(), text.as_bytes());
+    }
+    Ok(())
+}
+
+/// The first lines of two that post to each other, up to this many rounds of posts, by the clock.
+fn posted(alloc: Global, rounds: u64) -> Result<String, NoMemory> {
+    let mut text = String::new(alloc);
+    text.push_str(
+        "0 load 1 0 0000\n0 run 1 0 0\n4 done 1\n5 load 2 1 0000\n5 run 2 0 0\n9 done 2\n",
+    )?;
+    for round in 1..rounds {
+        write!(
+            text,
+            "{round}0 run 1 9 2\n{round}4 done 1\n{round}5 run 2 9 1\n{round}9 done 2\n"
+        )?;
+    }
+    Ok(text)
+}
+
+/// A long trace is put in pieces of at least 4096 bytes, each of whole lines: where a put fails those before it stand,
+/// and no put follows.
+#[test]
+fn failed_put_ends_a_trace(rt: HostRuntime) -> Result<(), Fail> {
+    let alloc = rt.alloc();
+    let whole = posted(alloc, 400)?;
+    for (put, least) in [(1, 4096usize), (2, 8192), (3, 12_288)] {
+        let mut shelf = shelf_with(alloc, b"0 load 0\n0 load 1\n", &[POSTS, POSTS_BACK], NEVER)?;
+        let mut out = MemSink::new(alloc, 20_000, vec![in alloc; put]?)?;
+        assert_eq!(rt;
+            answer(alloc, "run s a b", &mut shelf, &mut out)?,
+            Status::WriteFault,
+            "put {put}"
+        );
+        assert!(rt; out.bytes().len() >= least, "put {put}");
+        assert!(rt; out.bytes().ends_with(b"\n"), "put {put}");
+        assert!(rt; whole.as_bytes().starts_with(out.bytes()), "put {put}");
     }
     Ok(())
 }

@@ -1,8 +1,8 @@
-use Rattle.std.proofs.Common.{◌≡◌}
+use Rattle.std.proofs.Common.{◌≡◌, ◌<◌, length}
 use Rattle.domain_model.specs.declared.event.Turned.TheVariants.{More}
 use Rattle.domain_model.specs.Good.{Good}
 use Rattle.domain_model.specs.Remaining.{remaining}
-use Rattle.mote_sim.specs.Pieces.{LeadsBySome}
+use Rattle.mote_sim.specs.Pieces.{LeadsBySome, piece_bytes}
 use Rattle.mote_sim.proofs.Far.{Far}
 use Rattle.mote_sim.proofs.play.play.Given as goal
 
@@ -11,7 +11,8 @@ abbrev pub invariant-turns : goal.invariant-turns
 invariant-turns g l = record {
   good : Good l.mote;
   going : l.mote.ended ≡ More;
-  far : Far g.K.Sink.written g.K.Sink.faults (LeadsBySome g.K.Sink.leads) l.fn.out l.out l.fn.mote l.mote;
+  room : length l.gathered.items < piece_bytes;
+  far : Far g.K.Sink.written g.K.Sink.faults (LeadsBySome g.K.Sink.leads) l.fn.out l.out l.gathered.items l.fn.mote l.mote;
 }
 
 abbrev pub decreases-turns : goal.decreases-turns
