@@ -31,8 +31,9 @@ AreImages files (name ∷ names) [] = ⊥
 AreImages files (name ∷ names) (image ∷ images) =
     (held files name ≡ Some image) × (length image ≤ limit_of kinds.Run 1) × AreImages files names images
 
--- The files of `run` are a script and one image or more, up to their limit. Each was read whole and is within its limit, the script
--- is not refused and its events are loads and unloads, each image is built, and the bytes that were added are the text of a lawful run of them.
+-- The files of `run` are a script and one image or more, up to their limit. Each was read whole and is within its
+-- limit, the script is not refused and its events are loads and unloads, each image is built, and the bytes that were
+-- added are the text of a lawful run of them.
 pub record WritesRun (names : List (List ℕ)) (files : List Named) (before : List ℕ) (new : Option (List ℕ)) : Type 0 where
   pub script_name : List ℕ
   pub image_names : List (List ℕ)
@@ -71,8 +72,8 @@ pub record WritesListing (names : List (List ℕ)) (files : List Named) (before 
   pub accepted : refusal contents.code (marks_of contents) contents.sealed ≡ None
   pub written : new ≡ Some (before ++ listing_text (listed contents.code (marks_of contents) contents.sealed))
 
--- The image of `upgrade` is of the first version. The bytes that were added are the file of the same image in the second
--- version, with the same flags and no constants, and it reads so.
+-- The image of `upgrade` is of the first version. The bytes that were added are the file of the same image in the
+-- second version, with the same flags and no constants, and it reads so.
 pub record WritesUpgrade (names : List (List ℕ)) (files : List Named) (before : List ℕ) (new : Option (List ℕ)) : Type 0 where
   pub contents : Contents
   pub has_image : HasImage kinds.Upgrade names files contents

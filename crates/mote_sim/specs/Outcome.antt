@@ -26,10 +26,10 @@ use Rattle.mote_sim.specs.Listing.{listing_text}
 use Rattle.mote_sim.specs.Reading.{Gathered, Whole, Longer, Missing, gathered}
 use Rattle.mote_sim.specs.Trace.{IsTraceOf, input_of}
 
--- The words are no command; a file of the command isn't held; the file with that number is longer than its
--- limit; the first file is no script; the script or an image is not built; this input is run; the one file of
--- the other commands is no image; its code has no units; these units are listed; the image to upgrade is of the second version; the
--- image to seal is rewritten or sealed already; or the image of these contents is written.
+-- The words are no command; a file of the command isn't held; the file with that number is longer than its limit; the
+-- first file is no script; the script or an image is not built; this input is run; the one file of the other commands is
+-- no image; its code has no units; these units are listed; the image to upgrade is of the second version; the image to
+-- seal is rewritten or sealed already; or the image of these contents is written.
 pub data Outcome : Type 0 where
   NoCommand : Outcome
   Unheld : Outcome

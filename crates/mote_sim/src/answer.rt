@@ -179,9 +179,9 @@ fn answer<F: Shelf, K: Sink>(alloc: Global, words: &[Word], shelf: &mut F, out: 
 /// Does all that the program does: reads the words, reads the files that they name, and writes the answer.
 ///
 /// The words are those behind the program's name. `run SCRIPT IMAGE..` runs a script over 1 to 64 images, which
-/// it loads and unloads, and writes the trace. `list IMAGE` writes the units of an image, a line for each. `upgrade IMAGE`
-/// writes the file of an image of the first version in the second, and `seal IMAGE` that of an image which is neither
-/// rewritten nor sealed, sealed. All memory is taken before the first byte is written.
+/// it loads and unloads, and writes the trace. `list IMAGE` writes the units of an image, a line for each.
+/// `upgrade IMAGE` writes the file of an image of the first version in the second, and `seal IMAGE` that of an image
+/// which is neither rewritten nor sealed, sealed. All memory is taken before the first byte is written.
 pub fn mote_main<F: Shelf, K: Sink>(
     alloc: Global,
     words: &[Word],
