@@ -23,7 +23,8 @@ pub fn encode(i: &Instr) -> (u16, Option<u16>)
 
     // Decoded, they give the instruction again; and no other words do.
     ensures decodes { decoded result.0 result.1 ≡ Ok (i.now, word_count result.1) }
-    ensures only { (first : ℕ) (second : Option ℕ) (n : ℕ) → AreWords first second → Row first second i.now n → result ≡ (first, kept n second) }
+    ensures only { (first : ℕ) (second : Option ℕ) (n : ℕ) → AreWords first second → Row first second i.now n
+        → result ≡ (first, kept n second) }
 {
     words(i)
 }

@@ -69,7 +69,8 @@ pub(crate) fn with_displacement(stores: u16, by_y: u16, register: u8, displaceme
     ensures stores { result / 2 ^ 9 % 2 ^ 1 ≡ stores }
     ensures by_y { result / 2 ^ 3 % 2 ^ 1 ≡ by_y }
     ensures register { register ≡ result / 2 ^ 4 % 2 ^ 5 }
-    ensures displacement { displacement ≡ 32 * (result / 2 ^ 13 % 2 ^ 1) + 8 * (result / 2 ^ 10 % 2 ^ 2) + result / 2 ^ 0 % 2 ^ 3 }
+    ensures displacement { displacement
+        ≡ 32 * (result / 2 ^ 13 % 2 ^ 1) + 8 * (result / 2 ^ 10 % 2 ^ 2) + result / 2 ^ 0 % 2 ^ 3 }
 {
     let q = u16::from(displacement);
     let scattered = q / 32 * 0x2000 + q / 8 % 4 * 0x400 + q % 8;

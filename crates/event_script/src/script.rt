@@ -53,7 +53,8 @@ fn admit(
 /// The events of a script, or the first condition that holds at its least line where one does. `images` is how many
 /// images the run is given.
 pub fn parse_script(alloc: Global, text: &[u8], images: usize) -> Result<Script, ScriptError>
-    ensures ok { IfOk result (λ script. (refusal_of images text.now ≡ None) × (script.events.items ≡ events_of text.now)) }
+    ensures ok { IfOk result (λ script.
+        (refusal_of images text.now ≡ None) × (script.events.items ≡ events_of text.now)) }
     ensures times { IfOk result (λ script. AreTimes (loader_events script.events.items)) }
     ensures err { IfErr result (λ e. (e ≡ ScriptError.NoMemory) ⊎ (refusal_of images text.now ≡ Some e)) }
 {

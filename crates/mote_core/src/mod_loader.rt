@@ -71,7 +71,13 @@ impl Loadable {
 
     /// The module in a domain, with its state block at an address.
     pub fn in_domain(&self, domain: u8, state: u16) -> Loaded
-        ensures { result ≡ record { face = self.now.face; domain = domain; state = state; handler = self.now.handler; entries = self.now.entries } }
+        ensures { result ≡ record {
+          face = self.now.face;
+          domain = domain;
+          state = state;
+          handler = self.now.handler;
+          entries = self.now.entries;
+        } }
     {
         Loaded {
             face: self.face.copied(),

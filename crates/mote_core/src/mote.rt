@@ -62,7 +62,8 @@ impl Mote {
         requires units { limits.units ≤ unit_limit }
         requires least { 1 ≤ limits.handler }
         requires greatest { limits.handler ≤ handler_limit }
-        ensures begins { IfOk result (λ m. m ≡ begins images.items (loader_events script.events.items) limits.units limits.handler) }
+        ensures begins { IfOk result (λ m.
+            m ≡ begins images.items (loader_events script.events.items) limits.units limits.handler) }
         ensures good { IfOk result (λ m. Good m) }
     {
         let kernel = Kernel::new(alloc)?;

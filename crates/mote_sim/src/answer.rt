@@ -101,7 +101,8 @@ fn run_script<K: Sink>(alloc: Global, script: Script, images: &[Vec<u8>], out: &
 // Runs a script over its images, where it is one.
 fn run<K: Sink>(alloc: Global, script: &[u8], images: &[Vec<u8>], out: &mut K) -> Status
     ensures { Ends K.written K.faults (LeadsBySome K.leads) out.old out.new 0 0
-        (Answers (outcome_of_script (refusal_of (length images.now) script.now) (events_of script.now) (bytes_of images.now))) result }
+        (Answers (outcome_of_script (refusal_of (length images.now) script.now) (events_of script.now)
+        (bytes_of images.now))) result }
 {
     match parse_script(alloc, script, images.len()) {
         Ok(script) => run_script(alloc, script, images, out),

@@ -2,52 +2,64 @@
 
 use domain_model::{Event, What};
 use event_script::{ScriptError, parse_script};
+use std::alloc::Global;
 use std::test::Fail;
 
-/// An event as plain values: its time, its verb, the two numbers that follow, and the bytes of a packet.
-type Told<'a> = (u64, &'static str, u8, u8, &'a [u8]);
+/// An event as plain values: its time, its verb, the two numbers that follow, and how many bytes a packet has.
+type Told = (u64, &'static str, u8, u8, usize);
 
-fn told(event: &Event) -> Told<'_> {
+fn told(event: &Event) -> Told {
     match &event.what {
-        What::Load(image) => (event.time, "load", *image, 0, &[]),
-        What::Unload(id) => (event.time, "unload", *id, 0, &[]),
-        What::Radio { to, sort, bytes } => (event.time, "radio", *to, *sort, bytes.as_slice()),
-        What::Dump => (event.time, "dump", 0, 0, &[]),
+        What::Load(image) => (event.time, "load", *image, 0, 0),
+        What::Unload(id) => (event.time, "unload", *id, 0, 0),
+        What::Radio { to, sort, bytes } => (
+            event.time,
+            "radio",
+            *to,
+            *sort,
+            bytes.as_slice().len(),
+        ),
+        What::Dump => (event.time, "dump", 0, 0, 0),
     }
+}
+
+fn has_events(
+    alloc: Global,
+    text: &str,
+    images: usize,
+    rows: &[Told],
+) -> Result<bool, ScriptError> {
+    let script = parse_script(alloc, text.as_bytes(), images)?;
+    let mut pairs = script.events.iter().zip(rows.iter());
+    Ok(script.events.len() == rows.len() && pairs.all(|(event, row)| told(event) == *row))
 }
 
 #[test]
 fn scripts_are_their_events(rt: HostRuntime) -> Result<(), Fail> {
-    let rows: &[(&str, usize, &[Told<'static>])] = &[
-        ("", 1, &[]),
-        ("\n# load 7\n#\n", 1, &[]),
-        ("0 load 0\n", 1, &[(0, "load", 0, 0, &[])]),
-        (
-            "# one\n\n5 load 1\n\n5 unload 10\n",
-            2,
-            &[(5, "load", 1, 0, &[]), (5, "unload", 10, 0, &[])],
-        ),
-        (
-            "4294967295 unload 254\n",
-            0,
-            &[(4_294_967_295, "unload", 254, 0, &[])],
-        ),
-        (
-            "5 radio 1 7 aabb\n5 radio 254 255 -\n9 dump\n",
-            0,
-            &[
-                (5, "radio", 1, 7, &[0xAA, 0xBB]),
-                (5, "radio", 254, 255, &[]),
-                (9, "dump", 0, 0, &[]),
-            ],
-        ),
+    let alloc = rt.alloc();
+    assert!(rt; has_events(alloc, "", 1, &[])?);
+    assert!(rt; has_events(alloc, "\n# load 7\n#\n", 1, &[])?);
+    assert!(rt; has_events(alloc, "0 load 0\n", 1, &[(0, "load", 0, 0, 0)])?);
+    let two = [(5, "load", 1, 0, 0), (5, "unload", 10, 0, 0)];
+    assert!(rt; has_events(alloc, "# one\n\n5 load 1\n\n5 unload 10\n", 2, &two)?);
+    let late = [(4_294_967_295, "unload", 254, 0, 0)];
+    assert!(rt; has_events(alloc, "4294967295 unload 254\n", 0, &late)?);
+    let packets = "5 radio 1 7 aabb\n5 radio 254 255 -\n9 dump\n";
+    let told = [
+        (5, "radio", 1, 7, 2),
+        (5, "radio", 254, 255, 0),
+        (9, "dump", 0, 0, 0),
     ];
-    for (text, images, events) in rows {
-        let script = parse_script(rt.alloc(), text.as_bytes(), *images)?;
-        assert_eq!(rt; script.events.len(), events.len(), "{text}");
-        for (event, row) in script.events.iter().zip(events.iter()) {
-            assert!(rt; told(event) == *row, "{text}");
-        }
+    assert!(rt; has_events(alloc, packets, 0, &told)?);
+    Ok(())
+}
+
+#[test]
+fn the_bytes_of_a_packet_are_its_pairs(rt: HostRuntime) -> Result<(), Fail> {
+    let script = parse_script(rt.alloc(), b"5 radio 1 7 0aa0ff\n", 0)?;
+    match &script.events[0].what {
+        What::Radio { bytes, .. } => assert!(rt; bytes.as_slice() == [0x0A, 0xA0, 0xFF].as_slice()),
+        _ => assert!(rt; false, "an event of another sort"),
     }
     Ok(())
 }
