@@ -10,6 +10,13 @@ const SECOND: &[u8] = b"SOSM\x02\x01\0\0\0\0\0\0\0\x04\0\0\0\x81\xE4\x0E\x94\x08
 /// The same, sealed.
 const SEALED: &[u8] = b"SOSM\x02\x01\x02\0\0\0\0\0\0\x04\0\0\0\x81\xE4\x0E\x94\x08\xF1\x08\x95";
 
+/// The first version has no seal.
+const FLAGGED: &[u8] = b"SOSM\x01\x01\x02\0\0\0\0\0\0\x04\0\x81\xE4\x0E\x94\x08\xF1\x08\x95";
+
+/// The second has two flags.
+const FLAGGED_SECOND: &[u8] =
+    b"SOSM\x02\x01\x04\0\0\0\0\0\0\x04\0\0\0\x81\xE4\x0E\x94\x08\xF1\x08\x95";
+
 /// It asks for 3073 constants, one more than there may be.
 const ASKS_MANY: &[u8] =
     b"SOSM\x02\x01\0\0\0\0\0\0\0\x04\0\x01\x0C\x81\xE4\x0E\x94\x08\xF1\x08\x95";
@@ -92,6 +99,13 @@ const ROWS: &[Row] = &[
         Status::Refused,
         b"refused image 4 15\n",
     ),
+    ("list a", FLAGGED, Status::Refused, b"refused image 4 6\n"),
+    (
+        "list a",
+        FLAGGED_SECOND,
+        Status::Refused,
+        b"refused image 4 6\n",
+    ),
     ("run s a", CONSTANT, Status::Refused, b"refused unbuilt\n"),
 ];
 
@@ -153,6 +167,33 @@ fn size_comes_before_the_image_to_write(rt: HostRuntime) -> Result<(), Fail> {
             );
             assert_eq!(rt; out.bytes(), text.as_bytes(), "{words}");
         }
+    }
+    Ok(())
+}
+
+/// An image without code and with as many constants as there may be, 3072, has no units; a byte less is cut short, and
+/// one more is behind the end.
+#[test]
+fn constants_have_their_bounds(rt: HostRuntime) -> Result<(), Fail> {
+    let alloc = rt.alloc();
+    let rows = [
+        (3071usize, "refused image 1 3088\n"),
+        (3072, "refused code 5 0 0\n"),
+        (3073, "refused image 5 3089\n"),
+    ];
+    for (count, text) in rows {
+        let mut image = b"SOSM\x02\x01\0\0\0\0\0\0\0\0\0\0\x0C".to_vec(alloc)?;
+        for _ in 0..count {
+            image.push(7)?;
+        }
+        let mut shelf = shelf_with(alloc, b"", &[&image], NEVER)?;
+        let mut out = MemSink::new(alloc, 1000, vec![in alloc]?)?;
+        assert_eq!(rt;
+            answer(alloc, "list a", &mut shelf, &mut out)?,
+            Status::Refused,
+            "{count}"
+        );
+        assert_eq!(rt; out.bytes(), text.as_bytes());
     }
     Ok(())
 }
