@@ -1,3 +1,5 @@
 pub mod Kernel
-pub mod Value
 pub mod Rows
+pub mod Value
+pub mod PlainUnits
+pub mod PlainLaw

@@ -17,7 +17,7 @@ use mote_base::NoMemory;
 use mote_layout::PROVIDED;
 use std::alloc::Global;
 use std::marker::Model;
-use unit_code::{CodeError, Unit, UnitList, units};
+use unit_code::{BankCode, CodeError, Unit, UnitList, units};
 
 /// The kernel calls that are built, by number.
 const POST_SHORT: u8 = 3;
@@ -33,7 +33,7 @@ pub struct Loadable {
     state_size: u16,
     handler: u16,
     entries: ArrayVec<u16, PROVIDED>,
-    units: Vec<Unit>,
+    code: BankCode,
 }
 
 impl Model for Loadable {
@@ -41,7 +41,7 @@ impl Model for Loadable {
 
     ghost Value = { Module };
 
-    ghost view = { λ m. record { face = m.face; state_size = m.state_size; handler = m.handler; entries = m.entries.items; units = m.units.items } };
+    ghost view = { λ m. record { face = m.face; state_size = m.state_size; handler = m.handler; entries = m.entries.items; units = m.code.units } };
 }
 
 impl Loadable {
@@ -63,10 +63,11 @@ impl Loadable {
         self.handler
     }
 
-    pub fn units(&self) -> &[Unit]
-        ensures { result.now ≡ self.now.units }
+    /// Its units. They are spelled by no words yet.
+    pub fn code(&self) -> &BankCode
+        ensures { result.now.units ≡ self.now.units }
     {
-        self.units.as_slice()
+        &self.code
     }
 
     /// The module in a domain, with its state block at an address.
@@ -159,14 +160,18 @@ fn prepared_contents(
     }
     let marks = image.marks();
     match units(alloc, &image.code(), marks.as_slice(), image.sealed()) {
-        Ok(list) => Ok(prepared_units(image, list)),
+        Ok(list) => Ok(prepared_units(alloc, image, list)),
         Err(CodeError::NoMemory) => Err(NoMemory),
         Err(error) => Ok(Some(Err(Refusal::Code(error)))),
     }
 }
 
 // Prepares an image whose units were read.
-fn prepared_units(image: &ImageView<'_>, list: UnitList) -> Option<Result<Loadable, Refusal>>
+fn prepared_units(
+    alloc: Global,
+    image: &ImageView<'_>,
+    list: UnitList,
+) -> Option<Result<Loadable, Refusal>>
     requires face { FaceRules image.now.face }
     requires proper { IsProper list.units image.now.sealed }
     requires together { FitsTogether list (marks_of image.now) }
@@ -174,14 +179,14 @@ fn prepared_units(image: &ImageView<'_>, list: UnitList) -> Option<Result<Loadab
     ensures good { IsGoodImage result }
 {
     if are_built(list.units.as_slice()) {
-        Some(Ok(module_of(image, list)))
+        Some(Ok(module_of(alloc, image, list)))
     } else {
         None
     }
 }
 
 // The module of an image with these units.
-fn module_of(image: &ImageView<'_>, list: UnitList) -> Loadable
+fn module_of(alloc: Global, image: &ImageView<'_>, list: UnitList) -> Loadable
     requires marks { length list.marks ≡ length image.now.face.provided.items + 1 }
     requires provided { length image.now.face.provided.items ≤ provided_limit }
     ensures { result ≡ module_of image.now list }
@@ -191,7 +196,11 @@ fn module_of(image: &ImageView<'_>, list: UnitList) -> Loadable
         state_size: image.state_size(),
         handler: list.marks[0],
         entries: numbers(&list.marks[1..]),
-        units: list.units,
+        code: BankCode {
+            units: list.units,
+            words: Vec::new(alloc),
+            starts: Vec::new(alloc),
+        },
     }
 }
 

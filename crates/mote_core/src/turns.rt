@@ -1,19 +1,21 @@
 //! What turns do to kernel and runner.
-ghost use Rattle.std.specs.Prelude.{◌≡◌, ◌<◌, ◌≤◌, ◌+◌, [], ◌∷◌, ◌++◌, length, Some, Ok, slice_get};
+ghost use Rattle.std.specs.Prelude.{◌≡◌, ◌<◌, ◌≤◌, ◌+◌, [], ◌∷◌, ◌++◌, length, Some, Ok, IsSome};
 ghost use Rattle.domain_model.specs.Turn.{came, load_prepared, unload_module, module_named, dispatch, close, begun, entered, init_to, kernel_message, faulted, settled};
 ghost use Rattle.mote_base.specs.Messages.{front};
 ghost use Rattle.mote_layout.specs.Limits.{turn_lines};
 ghost use Rattle.mote_layout.specs.Memory.{domain_count};
 ghost use Rattle.mote_core.specs.Rows.{AreInDomains};
-ghost use Rattle.domain_model.specs.Act.{act};
+ghost use Rattle.domain_model.specs.Act.{bank};
 ghost use Rattle.domain_model.specs.Prepared.{refusal_detail, refusal_kind, refusal_number, refusal_value};
+ghost use Rattle.domain_model.specs.Free.{UnitStep};
 ghost use Rattle.domain_model.specs.Good.{GoodMachine, GoodImage, IsGoodImage};
+ghost use Rattle.domain_model.specs.Runners.{unit_by, unit_lines};
 ghost use Rattle.std.specs.List.{AllByRecursion};
 
 use crate::kernel_call::Kernel;
 use crate::loaded::ModuleRow;
 use crate::mod_loader::{Loadable, Ready};
-use crate::unit_run::PlainRunner;
+use crate::runner::Runner;
 use domain_model::{FaultNote, Lines, LoaderOrder, Refusal, Running, TraceLine, UnitEnd};
 use mote_base::Msg;
 
@@ -49,19 +51,19 @@ fn kernel_message(to: u8, sort: u8) -> Msg<()>
 }
 
 /// Does what an event of the script asks for.
-pub fn come(
+pub fn come<R: Runner>(
     images: &[Ready],
     what: LoaderOrder,
     k: &mut Kernel,
-    r: &mut PlainRunner,
+    r: &mut R,
     lines: &mut Lines,
 )
     requires empty { lines.old ≡ [] }
-    requires machine { GoodMachine k.old r.old }
+    requires machine { GoodMachine k.old (R.Runner.part r.old) }
     requires images { AllByRecursion IsGoodImage images.now }
-    ensures kernel { k.new ≡ (came images.now what k.old r.old).kernel }
-    ensures runner { r.new ≡ (came images.now what k.old r.old).runner }
-    ensures lines { lines.new ≡ (came images.now what k.old r.old).lines }
+    ensures kernel { k.new ≡ (came images.now what k.old (R.Runner.part r.old)).kernel }
+    ensures runner { R.Runner.part r.new ≡ (came images.now what k.old (R.Runner.part r.old)).runner }
+    ensures lines { lines.new ≡ (came images.now what k.old (R.Runner.part r.old)).lines }
 {
     match what {
         LoaderOrder::Load(number) => {
@@ -76,11 +78,12 @@ pub fn come(
 }
 
 // Starts the last handler of a module, or says that there is no such module.
-fn unload(id: u8, k: &mut Kernel, r: &mut PlainRunner, lines: &mut Lines)
-    requires { lines.old ≡ [] }
-    ensures kernel { k.new ≡ (unload_module (module_named k.old.modules id) id k.old r.old).kernel }
-    ensures runner { r.new ≡ (unload_module (module_named k.old.modules id) id k.old r.old).runner }
-    ensures lines { lines.new ≡ (unload_module (module_named k.old.modules id) id k.old r.old).lines }
+fn unload<R: Runner>(id: u8, k: &mut Kernel, r: &mut R, lines: &mut Lines)
+    requires empty { lines.old ≡ [] }
+    requires machine { GoodMachine k.old (R.Runner.part r.old) }
+    ensures kernel { k.new ≡ (unload_module (module_named k.old.modules id) id k.old (R.Runner.part r.old)).kernel }
+    ensures runner { R.Runner.part r.new ≡ (unload_module (module_named k.old.modules id) id k.old (R.Runner.part r.old)).runner }
+    ensures lines { lines.new ≡ (unload_module (module_named k.old.modules id) id k.old (R.Runner.part r.old)).lines }
 {
     let time = k.clock();
     match k.module_named(id) {
@@ -88,7 +91,7 @@ fn unload(id: u8, k: &mut Kernel, r: &mut PlainRunner, lines: &mut Lines)
         Some(loaded) => {
             let row = loaded.row();
             k.finish(&row, kernel_message(id, FINAL));
-            r.enter(row.handler);
+            r.enter(row.domain, row.handler);
             lines.add(TraceLine::Run {
                 time,
                 id,
@@ -100,12 +103,12 @@ fn unload(id: u8, k: &mut Kernel, r: &mut PlainRunner, lines: &mut Lines)
 }
 
 /// Dispatches the first message that waits.
-pub fn dispatch(k: &mut Kernel, r: &mut PlainRunner, lines: &mut Lines)
+pub fn dispatch<R: Runner>(k: &mut Kernel, r: &mut R, lines: &mut Lines)
     requires empty { lines.old ≡ [] }
-    requires machine { GoodMachine k.old r.old }
-    ensures kernel { k.new ≡ (dispatch (front k.old.queues) k.old r.old).kernel }
-    ensures runner { r.new ≡ (dispatch (front k.old.queues) k.old r.old).runner }
-    ensures lines { lines.new ≡ (dispatch (front k.old.queues) k.old r.old).lines }
+    requires machine { GoodMachine k.old (R.Runner.part r.old) }
+    ensures kernel { k.new ≡ (dispatch (front k.old.queues) k.old (R.Runner.part r.old)).kernel }
+    ensures runner { R.Runner.part r.new ≡ (dispatch (front k.old.queues) k.old (R.Runner.part r.old)).runner }
+    ensures lines { lines.new ≡ (dispatch (front k.old.queues) k.old (R.Runner.part r.old)).lines }
 {
     if let Some(message) = k.next_message() {
         let Some(receiver) = k.module_named(message.to) else {
@@ -119,7 +122,7 @@ pub fn dispatch(k: &mut Kernel, r: &mut PlainRunner, lines: &mut Lines)
             from: message.from,
         });
         k.begin(&row, message);
-        r.enter(row.handler);
+        r.enter(row.domain, row.handler);
     }
 }
 
@@ -154,19 +157,19 @@ fn refuse_file(refusal: &Refusal, image: u8, k: &Kernel, lines: &mut Lines)
 }
 
 // Loads the module of an image file, or says why not.
-fn load_prepared(
+fn load_prepared<R: Runner>(
     prepared: &Result<Loadable, Refusal>,
     image: u8,
     k: &mut Kernel,
-    r: &mut PlainRunner,
+    r: &mut R,
     lines: &mut Lines,
 )
     requires empty { lines.old ≡ [] }
-    requires machine { GoodMachine k.old r.old }
+    requires machine { GoodMachine k.old (R.Runner.part r.old) }
     requires prepared { IsGoodImage (Some prepared.now) }
-    ensures kernel { k.new ≡ (load_prepared prepared.now image k.old r.old).kernel }
-    ensures runner { r.new ≡ (load_prepared prepared.now image k.old r.old).runner }
-    ensures lines { lines.new ≡ (load_prepared prepared.now image k.old r.old).lines }
+    ensures kernel { k.new ≡ (load_prepared prepared.now image k.old (R.Runner.part r.old)).kernel }
+    ensures runner { R.Runner.part r.new ≡ (load_prepared prepared.now image k.old (R.Runner.part r.old)).runner }
+    ensures lines { lines.new ≡ (load_prepared prepared.now image k.old (R.Runner.part r.old)).lines }
 {
     match prepared {
         Ok(loadable) => load(loadable, image, k, r, lines),
@@ -175,13 +178,13 @@ fn load_prepared(
 }
 
 // Loads a module, or says why not.
-fn load(loadable: &Loadable, image: u8, k: &mut Kernel, r: &mut PlainRunner, lines: &mut Lines)
+fn load<R: Runner>(loadable: &Loadable, image: u8, k: &mut Kernel, r: &mut R, lines: &mut Lines)
     requires empty { lines.old ≡ [] }
-    requires machine { GoodMachine k.old r.old }
+    requires machine { GoodMachine k.old (R.Runner.part r.old) }
     requires loadable { GoodImage loadable.now }
-    ensures kernel { k.new ≡ (load_prepared (Ok loadable.now) image k.old r.old).kernel }
-    ensures runner { r.new ≡ (load_prepared (Ok loadable.now) image k.old r.old).runner }
-    ensures lines { lines.new ≡ (load_prepared (Ok loadable.now) image k.old r.old).lines }
+    ensures kernel { k.new ≡ (load_prepared (Ok loadable.now) image k.old (R.Runner.part r.old)).kernel }
+    ensures runner { R.Runner.part r.new ≡ (load_prepared (Ok loadable.now) image k.old (R.Runner.part r.old)).runner }
+    ensures lines { lines.new ≡ (load_prepared (Ok loadable.now) image k.old (R.Runner.part r.old)).lines }
 {
     if k.is_loaded(loadable.id()) {
         return refuse(DUPLICATE, image, k, lines);
@@ -199,15 +202,17 @@ fn load(loadable: &Loadable, image: u8, k: &mut Kernel, r: &mut PlainRunner, lin
         handler: loadable.handler(),
     };
     k.add_module(loadable.in_domain(domain, state));
-    r.place(domain, loadable.units());
+    r.place(domain, loadable.code());
     start(&row, k, r, lines);
 }
 
 // Starts a module that was loaded just now.
-fn start(row: &ModuleRow, k: &mut Kernel, r: &mut PlainRunner, lines: &mut Lines)
+fn start<R: Runner>(row: &ModuleRow, k: &mut Kernel, r: &mut R, lines: &mut Lines)
     requires empty { lines.old ≡ [] }
+    requires domain { row.now.domain < domain_count }
+    requires handler { row.now.handler < length (bank (R.Runner.part r.old) row.now.domain) }
     ensures kernel { k.new ≡ begun k.old row.now.domain row.now.state (init_to row.now.id) }
-    ensures runner { r.new ≡ entered r.old row.now.handler }
+    ensures runner { R.Runner.part r.new ≡ entered (R.Runner.part r.old) row.now.handler }
     ensures lines { lines.new ≡ TraceLine.Load k.old.clock row.now.id row.now.domain row.now.state ∷
         TraceLine.Run k.old.clock row.now.id 0 0 ∷ [] }
 {
@@ -219,7 +224,7 @@ fn start(row: &ModuleRow, k: &mut Kernel, r: &mut PlainRunner, lines: &mut Lines
         state: row.state,
     });
     k.begin(row, kernel_message(row.id, INIT));
-    r.enter(row.handler);
+    r.enter(row.domain, row.handler);
     lines.add(TraceLine::Run {
         time,
         id: row.id,
@@ -229,13 +234,13 @@ fn start(row: &ModuleRow, k: &mut Kernel, r: &mut PlainRunner, lines: &mut Lines
 }
 
 /// Stops the handler, and takes its module out.
-pub fn stop(note: FaultNote, run: &Running, k: &mut Kernel, r: &mut PlainRunner, lines: &mut Lines)
+pub fn stop<R: Runner>(note: FaultNote, run: &Running, k: &mut Kernel, r: &mut R, lines: &mut Lines)
     requires domain { run.now.domain < domain_count }
     requires modules { AreInDomains k.old.modules }
     requires room { length lines.old + 3 ≤ turn_lines }
-    ensures kernel { k.new ≡ (faulted note run.now k.old r.old lines.old).kernel }
-    ensures runner { r.new ≡ (faulted note run.now k.old r.old lines.old).runner }
-    ensures lines { lines.new ≡ (faulted note run.now k.old r.old lines.old).lines }
+    ensures kernel { k.new ≡ (faulted note run.now k.old (R.Runner.part r.old) lines.old).kernel }
+    ensures runner { R.Runner.part r.new ≡ (faulted note run.now k.old (R.Runner.part r.old) lines.old).runner }
+    ensures lines { lines.new ≡ (faulted note run.now k.old (R.Runner.part r.old) lines.old).lines }
 {
     let time = k.clock();
     let id = k.id_at(run.domain);
@@ -249,17 +254,17 @@ pub fn stop(note: FaultNote, run: &Running, k: &mut Kernel, r: &mut PlainRunner,
     lines.add(TraceLine::Unload { time, id });
     k.end_handler();
     k.purge(id, run.domain);
-    r.empty(run.domain);
+    r.clear(run.domain);
     purge_ending(k, r, lines);
 }
 
 // Takes the module that ends out, where it is still loaded.
-fn purge_ending(k: &mut Kernel, r: &mut PlainRunner, lines: &mut Lines)
+fn purge_ending<R: Runner>(k: &mut Kernel, r: &mut R, lines: &mut Lines)
     requires modules { AreInDomains k.old.modules }
     requires room { length lines.old < turn_lines }
-    ensures kernel { k.new ≡ (close k.old.ending k.old r.old lines.old).kernel }
-    ensures runner { r.new ≡ (close k.old.ending k.old r.old lines.old).runner }
-    ensures lines { lines.new ≡ (close k.old.ending k.old r.old lines.old).lines }
+    ensures kernel { k.new ≡ (close k.old.ending k.old (R.Runner.part r.old) lines.old).kernel }
+    ensures runner { R.Runner.part r.new ≡ (close k.old.ending k.old (R.Runner.part r.old) lines.old).runner }
+    ensures lines { lines.new ≡ (close k.old.ending k.old (R.Runner.part r.old) lines.old).lines }
 {
     let Some(id) = k.ending() else {
         return;
@@ -271,25 +276,41 @@ fn purge_ending(k: &mut Kernel, r: &mut PlainRunner, lines: &mut Lines)
             id: row.id,
         });
         k.purge(row.id, row.domain);
-        r.empty(row.domain);
+        r.clear(row.domain);
     }
     k.clear_ending();
 }
 
+/// Runs one unit. It is one of the machine's.
+pub fn run_one<R: Runner>(k: &mut Kernel, r: &mut R, lines: &mut Lines) -> UnitEnd
+    requires good { GoodMachine k.old (R.Runner.part r.old) }
+    requires inside { IsSome k.old.running }
+    requires empty { lines.old ≡ [] }
+    ensures kernel { k.new ≡ (R.Runner.acts k.old r.old).kernel }
+    ensures runner { R.Runner.part r.new ≡ R.Runner.part (R.Runner.acts k.old r.old).runner }
+    ensures lines { lines.new ≡ (R.Runner.acts k.old r.old).lines }
+    ensures few { length lines.new ≤ unit_lines }
+    ensures ending { result ≡ (R.Runner.acts k.old r.old).ending }
+    ensures step { UnitStep k.old (R.Runner.part r.old) (unit_by R.Runner.part (R.Runner.acts k.old r.old)) }
+{
+    r.known();
+    r.run_unit(k, lines)
+}
+
 /// Does what the end of a unit asks for.
-pub fn settle(
+pub fn settle<R: Runner>(
     ending: UnitEnd,
     run: &Running,
     k: &mut Kernel,
-    r: &mut PlainRunner,
+    r: &mut R,
     lines: &mut Lines,
 )
     requires domain { run.now.domain < domain_count }
     requires modules { AreInDomains k.old.modules }
     requires room { length lines.old + 3 ≤ turn_lines }
-    ensures kernel { k.new ≡ (settled ending run.now k.old r.old lines.old).kernel }
-    ensures runner { r.new ≡ (settled ending run.now k.old r.old lines.old).runner }
-    ensures lines { lines.new ≡ (settled ending run.now k.old r.old lines.old).lines }
+    ensures kernel { k.new ≡ (settled ending run.now k.old (R.Runner.part r.old) lines.old).kernel }
+    ensures runner { R.Runner.part r.new ≡ (settled ending run.now k.old (R.Runner.part r.old) lines.old).runner }
+    ensures lines { lines.new ≡ (settled ending run.now k.old (R.Runner.part r.old) lines.old).lines }
 {
     match ending {
         UnitEnd::On => {}

@@ -10,13 +10,14 @@ ghost use Rattle.domain_model.specs.Units.{IsBuilt};
 ghost use Rattle.domain_model.specs.Good.{GoodMachine, GoodRunning};
 
 use crate::kernel_call::Kernel;
+use crate::runner::Runner;
 use avr_isa::Instr;
 use domain_model::{FaultNote, Lines, Rule, Running, TraceLine, UnitEnd};
 use mote_base::NoMemory;
 use mote_layout::{BANK_WORDS, DOMAINS, POINTER_X};
 use std::alloc::Global;
 use std::marker::Model;
-use unit_code::Unit;
+use unit_code::{BankCode, Unit};
 
 /// The kernel calls that are built, by number.
 const POST_SHORT: u8 = 3;
@@ -103,36 +104,13 @@ impl PlainRunner {
         Ok(PlainRunner { banks, unit: 0 })
     }
 
-    /// The number of the unit that runs next.
-    pub fn here(&self) -> u16
-        ensures { result ≡ self.now.unit }
-    {
-        self.unit
-    }
-
-    /// Puts units into a domain.
-    pub fn place(&mut self, domain: u8, units: &[Unit])
+    fn fill(&mut self, domain: u8, units: &[Unit])
         requires domain { domain < domain_count }
         requires fits { length units.now ≤ bank_words }
         ensures { self.new ≡ placed self.old domain units.now }
     {
         let bank = &mut self.banks[usize::from(domain)];
         bank.fill(units);
-    }
-
-    /// Takes the units of a domain out.
-    pub fn empty(&mut self, domain: u8)
-        requires domain { domain < domain_count }
-        ensures { self.new ≡ emptied self.old domain }
-    {
-        self.place(domain, &[]);
-    }
-
-    /// Another unit is next.
-    pub fn enter(&mut self, unit: u16)
-        ensures { self.new ≡ entered self.old unit }
-    {
-        self.unit = unit;
     }
 
     fn next_unit(&self, run: &Running) -> Option<Unit>
@@ -223,21 +201,60 @@ impl PlainRunner {
             _ => unreachable!(),
         }
     }
+}
 
-    /// Runs the next unit.
-    pub fn run_unit(&mut self, run: &Running, k: &mut Kernel, lines: &mut Lines) -> UnitEnd
-        requires good { GoodMachine k.old self.old }
-        requires running { k.old.running ≡ Some run.now }
-        requires room { length lines.old + 8 ≤ turn_lines }
-        ensures kernel { k.new ≡ (act k.old self.old).kernel }
-        ensures runner { self.new ≡ (act k.old self.old).runner }
-        ensures lines { lines.new ≡ lines.old ++ (act k.old self.old).lines }
-        ensures ending { result ≡ (act k.old self.old).ending }
-    {
-        match self.next_unit(run) {
-            Some(unit) => self.run_one(&unit, run, k, lines),
-            None => unreachable!(),
-        }
+impl Runner for PlainRunner {
+    ghost use Rattle.std.specs.Prelude.{refl};
+    ghost use Rattle.domain_model.specs.Turn.{emptied, entered};
+    ghost use Rattle.mote_core.specs.PlainLaw.{plain_law};
+    ghost use Rattle.mote_core.specs.PlainUnits.{plain_acts, plain_placed};
+
+    ghost part = { λ r. r };
+
+    ghost acts = { plain_acts };
+
+    ghost placed_by = { plain_placed };
+
+    ghost cleared_by = { emptied };
+
+    ghost entered_by = { λ r domain unit. entered r unit };
+
+    ghost holds = { λ r. Unit {0} };
+
+    ghost placed_law = { λ r domain code. refl };
+
+    ghost cleared_law = { λ r domain. refl };
+
+    ghost entered_law = { λ r domain unit. refl };
+
+    ghost law = { λ k r held good inside. plain_law k r good };
+
+    fn known(&self) {}
+
+    fn place(&mut self, domain: u8, code: &BankCode) {
+        self.fill(domain, &code.units);
+    }
+
+    fn clear(&mut self, domain: u8) {
+        self.fill(domain, &[]);
+    }
+
+    fn enter(&mut self, _domain: u8, unit: u16) {
+        self.unit = unit;
+    }
+
+    fn here(&self) -> u16 {
+        self.unit
+    }
+
+    fn run_unit(&mut self, k: &mut Kernel, lines: &mut Lines) -> UnitEnd {
+        let Some(run) = k.running() else {
+            unreachable!()
+        };
+        let Some(unit) = self.next_unit(&run) else {
+            unreachable!()
+        };
+        self.run_one(&unit, &run, k, lines)
     }
 }
 
