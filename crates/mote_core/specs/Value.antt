@@ -43,3 +43,7 @@ acted part acts m = seen_by part (acts m.kernel m.runner)
 -- What a turn makes of it, where its runner runs the unit.
 abbrev pub made_by : {R : Type 0} → (R → RunnerState) → (KernelState → R → ActedBy R) → Choice → MoteValue R → Made
 made_by part acts c m = made c (state_of part m) (acted part acts m)
+
+-- Of a plain runner the machine sees all.
+abbrev pub plain_state : MoteValue RunnerState → State
+plain_state m = state_of (λ r. r) m

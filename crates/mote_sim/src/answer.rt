@@ -25,7 +25,7 @@ use crate::sealing::{seal, upgrade};
 use domain_model::{Event, Kind, Lines, What};
 use event_script::{Script, ScriptError, parse_script};
 use mote_base::{NoMemory, Shelf, Sink, Status, Word};
-use mote_core::{Limits, Mote, Ready};
+use mote_core::{Limits, Mote, PlainRunner, Ready};
 use mote_layout::{DEFAULT_HANDLER_UNITS, DEFAULT_UNITS};
 use std::alloc::Global;
 
@@ -58,7 +58,11 @@ fn is_for_loader(event: &Event) -> bool
 }
 
 // A mote at the start of the run of a script over its images, where all are built.
-fn prepare(alloc: Global, script: Script, images: &[Vec<u8>]) -> Result<Option<Mote>, NoMemory>
+fn prepare(
+    alloc: Global,
+    script: Script,
+    images: &[Vec<u8>],
+) -> Result<Option<Mote<PlainRunner>>, NoMemory>
     requires { AreTimes (loader_events script.events.items) }
     ensures { IfOk result (λ found. StandsAt found (input_of script.events.items (bytes_of images.now))) }
 {
@@ -73,7 +77,8 @@ fn prepare(alloc: Global, script: Script, images: &[Vec<u8>]) -> Result<Option<M
         units: DEFAULT_UNITS,
         handler: DEFAULT_HANDLER_UNITS,
     };
-    let mote = Mote::new(alloc, images, script, limits)?;
+    let runner = PlainRunner::new(alloc)?;
+    let mote = Mote::new(alloc, images, script, limits, runner)?;
     Ok(Some(mote))
 }
 

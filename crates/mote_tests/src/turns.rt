@@ -4,7 +4,7 @@ use arrayvec::ArrayVec;
 use domain_model::{Lines, Turned};
 use event_script::parse_script;
 use mote_base::Line;
-use mote_core::{Limits, Mote, Ready};
+use mote_core::{Limits, Mote, PlainRunner, Ready};
 use std::test::Fail;
 use trace_text::put_line;
 
@@ -69,7 +69,8 @@ fn budgets_end_runs_and_the_watchdog_stops_handlers(rt: HostRuntime) -> Result<(
             units: row.units,
             handler: row.handler,
         };
-        let mut mote = Mote::new(alloc, vec![in alloc; image]?, script, limits)?;
+        let runner = PlainRunner::new(alloc)?;
+        let mut mote = Mote::new(alloc, vec![in alloc; image]?, script, limits, runner)?;
         let mut turn = Lines::new(alloc)?;
         let mut told = Vec::new(alloc);
         let mut end = Turned::More;
