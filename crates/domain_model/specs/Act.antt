@@ -1,23 +1,26 @@
 -- What one unit does.
-use Rattle.std.specs.Prelude.{ℕ, ◌+◌, ◌%◌, ◌==◌, nat_lt, List, [], ◌∷◌, length, Bool, true, false, Option, Some, None, slice_get, slice_index_or, find, unwrap_or}
-use Rattle.std.specs.List.{list_any}
-use Rattle.std.specs.Option.{option_map_or}
+use Rattle.std.specs.Prelude.{ℕ, ◌+◌, ◌-◌, ◌==◌, nat_lt, nat_le, List, [], Bool, true, false, not, Option, Some, None, slice_get, slice_index_or, unwrap_or}
+use Rattle.avr_alu.specs.Bits.{is_set}
 use Rattle.avr_isa.specs.declared.instruction.Instr.{Instr}
+use Rattle.avr_isa.specs.declared.instruction.Instr.TheVariants as instr
 use Rattle.avr_machine.specs.Effect.{effect}
 use Rattle.avr_machine.specs.Modes.{store_address as address_by_mode}
-use Rattle.mote_base.specs.Messages.{list_of, appended, queue_limit}
+use Rattle.mote_layout.specs.Memory.{ram_start, floor, pointer_y}
 use Rattle.mote_layout.specs.Store.{may_store as permits}
 use Rattle.unit_code.specs.declared.unit.Unit.{Unit}
-use Rattle.unit_code.specs.declared.unit.Unit.TheVariants.{Plain, Store, KernelCall, Return}
+use Rattle.unit_code.specs.declared.unit.Unit.TheVariants.{Plain, Store, Push, Pop, SpGroup, Reserve, Skip, Branch, Jump, KernelCall, Return}
 use Rattle.domain_model.specs.declared.handler.Running.{Running}
 use Rattle.domain_model.specs.declared.fault.Rule.{Rule}
 use Rattle.domain_model.specs.declared.fault.Rule.TheVariants as rule
+use Rattle.domain_model.specs.declared.fault.FaultNote.{FaultNote}
+use Rattle.domain_model.specs.declared.fault.Served.{Served}
+use Rattle.domain_model.specs.declared.fault.Served.TheVariants as served
 use Rattle.domain_model.specs.declared.fault.UnitEnd.{UnitEnd}
 use Rattle.domain_model.specs.declared.fault.UnitEnd.TheVariants.{On, Over, Fault}
 use Rattle.domain_model.specs.declared.line.TraceLine.{TraceLine}
-use Rattle.domain_model.specs.declared.line.TraceLine.TheVariants as line
-use Rattle.domain_model.specs.State.{Processor, Message, Loaded, KernelState, RunnerState, at_counter, without_counter, register, pair, with_pair, with_processor}
-use Rattle.domain_model.specs.Units.{Service, PostShort, Say, MyId, service_of}
+use Rattle.domain_model.specs.State.{Processor, KernelState, RunnerState, at_counter, without_counter, register, pair, with_byte, with_processor, with_zeros}
+use Rattle.domain_model.specs.Units.{service_of}
+use Rattle.domain_model.specs.Calls.{Serving, serve}
 
 -- Kernel and runner after a unit, the lines that it wrote, and how it ended.
 pub record Acted : Type 0 where
@@ -26,30 +29,24 @@ pub record Acted : Type 0 where
   pub lines : List TraceLine
   pub ending : UnitEnd
 
+-- another unit is next
+abbrev pub goes_to : ℕ → KernelState → RunnerState → List TraceLine → Acted
+goes_to unit k r lines = record { kernel = k; runner = record r { unit = unit }; lines = lines; ending = On }
+
 -- the unit behind this one is next
 abbrev pub goes_on : KernelState → RunnerState → List TraceLine → Acted
-goes_on k r lines = record { kernel = k; runner = record r { unit = r.unit + 1 }; lines = lines; ending = On }
+goes_on k r lines = goes_to (r.unit + 1) k r lines
 
 -- the unit is refused, and changes nothing
+abbrev pub stopped : FaultNote → KernelState → RunnerState → Acted
+stopped note k r = record { kernel = k; runner = r; lines = []; ending = Fault note }
+
 abbrev pub faults : Rule → ℕ → KernelState → RunnerState → Acted
-faults why address k r =
-    record { kernel = k; runner = r; lines = []; ending = Fault (record { rule = why; address = address }) }
+faults why address k r = stopped (record { rule = why; address = address }) k r
 
 -- the handler returns
 abbrev pub returns : KernelState → RunnerState → Acted
 returns k r = record { kernel = k; runner = r; lines = []; ending = Over }
-
--- The module that is loaded in a domain.
-abbrev pub module_at : List Loaded → ℕ → Option Loaded
-module_at modules domain = find (λ m. m.domain == domain) modules
-
--- its id; 0 where there is none
-abbrev pub id_at : List Loaded → ℕ → ℕ
-id_at modules domain = option_map_or (λ (m : Loaded). m.face.id) (module_at modules domain) 0
-
--- A module with that id is loaded.
-abbrev pub is_loaded : List Loaded → ℕ → Bool
-is_loaded modules id = list_any (λ m. m.face.id == id) modules
 
 -- Where the running domain may store: in its own blocks, and on its own part of the stack.
 abbrev pub may_store : KernelState → Running → ℕ → Bool
@@ -64,61 +61,95 @@ plain_effect i p = without_counter (effect i 0 (at_counter p 0))
 abbrev pub store_address : Instr → Processor → ℕ
 store_address i p = unwrap_or (address_by_mode i (at_counter p 0)) 0
 
--- The answer of a kernel call is in R25:R24.
-abbrev pub answered : KernelState → ℕ → KernelState
-answered k answer = with_processor k (with_pair k.processor 24 answer)
+-- A skip passes over the next instruction: it leads to where that one ends, which is 1 here, and not to where it begins, 0.
+abbrev pub passes : Instr → Processor → Bool
+passes i p = (effect i 1 (at_counter p 0)).pc == 1
+
+-- A branch is taken where its bit of SREG is as it wants.
+abbrev pub taken : Bool → ℕ → Processor → Bool
+taken true bit p = is_set p.sreg bit
+taken false bit p = not (is_set p.sreg bit)
+
+-- The stack pointer that a group sets: R29:R28.
+abbrev pub group_sp : Processor → ℕ
+group_sp p = pair p pointer_y
+
+-- The status register after a group: R0 where the group sets it.
+abbrev pub group_sreg : Bool → Processor → ℕ
+group_sreg true p = register p 0
+group_sreg false p = p.sreg
+
+-- A group sets SP. Where SP falls, the bytes that it uncovers, from above the new SP up to the old one, become 0.
+abbrev pub group_effect : Bool → Processor → Processor
+group_effect with_sreg p =
+    record {
+      registers = p.registers;
+      sreg = group_sreg with_sreg p;
+      sp = group_sp p;
+      memory = with_zeros p.memory (group_sp p + 1 - ram_start) (p.sp - group_sp p);
+    }
+
+-- Two bytes 0 are pushed.
+abbrev pub reserved : Processor → Processor
+reserved p = record (with_byte (with_byte p p.sp 0) (p.sp - 1) 0) { sp = p.sp - 2 }
+
+-- Two bytes have room on the stack.
+abbrev pub has_room : Processor → Bool
+has_room p = nat_le (floor + 2) p.sp
 
 -- Each unit with a need, by whether it is met.
 
-abbrev pub act_store : Bool → Instr → KernelState → RunnerState → Acted
-act_store true i k r = goes_on (with_processor k (plain_effect i k.processor)) r []
-act_store false i k r = faults rule.Store (store_address i k.processor) k r
+-- an instruction: where its need isn't met, the fault has this rule and address
+abbrev pub act_effect : Bool → Rule → ℕ → Instr → KernelState → RunnerState → Acted
+act_effect true why address i k r = goes_on (with_processor k (plain_effect i k.processor)) r []
+act_effect false why address i k r = faults why address k r
+
+-- a group, whose SP has to be at least the floor and then at most the base
+abbrev pub act_under : Bool → Bool → KernelState → RunnerState → Acted
+act_under true with_sreg k r = goes_on (with_processor k (group_effect with_sreg k.processor)) r []
+act_under false with_sreg k r = faults rule.StackUnder (group_sp k.processor) k r
+
+abbrev pub act_group : Bool → Bool → Running → KernelState → RunnerState → Acted
+act_group true with_sreg run k r = act_under (nat_le (group_sp k.processor) run.base) with_sreg k r
+act_group false with_sreg run k r = faults rule.StackOver (group_sp k.processor) k r
+
+abbrev pub act_reserve : Bool → KernelState → RunnerState → Acted
+act_reserve true k r = goes_on (with_processor k (reserved k.processor)) r []
+act_reserve false k r = faults rule.StackOver k.processor.sp k r
+
+abbrev pub act_skip : Bool → KernelState → RunnerState → Acted
+act_skip true k r = goes_to (r.unit + 2) k r []
+act_skip false k r = goes_on k r []
+
+abbrev pub act_branch : Bool → ℕ → KernelState → RunnerState → Acted
+act_branch true target k r = goes_to target k r []
+act_branch false target k r = goes_on k r []
 
 abbrev pub act_return : Bool → KernelState → RunnerState → Acted
 act_return true k r = returns k r
 act_return false k r = faults rule.Balance k.processor.sp k r
 
--- The short message that the registers of a post ask for: to the module in R24, with the type in R22, the byte in
--- R20 and the word in R19:R18, by the high queue where bit 0 of R16 is set. The sender is the running module.
-abbrev pub message_of : KernelState → Running → Message
-message_of k run =
-    record {
-      to = register k.processor 24;
-      from = id_at k.modules run.domain;
-      sort = register k.processor 22;
-      byte = register k.processor 20;
-      word = pair k.processor 18;
-      long = false;
-      len = 0;
-      load = None;
-      high = register k.processor 16 % 2 == 1;
-    }
+-- a kernel call, by how it came back
+abbrev pub act_served : Served → Serving → RunnerState → Acted
+act_served served.Back s r = goes_on s.kernel r s.lines
+act_served (served.Fault note) s r = record { kernel = s.kernel; runner = r; lines = s.lines; ending = Fault note }
 
--- A post answers 2 where its receiver isn't loaded, else 1 where its queue is full, and else posts and answers 0.
-abbrev pub post_where : Bool → Message → KernelState → KernelState
-post_where true m k = answered (record k { queues = appended m.high m k.queues }) 0
-post_where false m k = answered k 1
-
-abbrev pub post_to : Bool → Message → KernelState → KernelState
-post_to true m k = post_where (nat_lt (length (list_of m.high k.queues)) queue_limit) m k
-post_to false m k = answered k 2
-
-abbrev pub post_short : KernelState → Running → KernelState
-post_short k run = post_to (is_loaded k.modules (message_of k run).to) (message_of k run) k
-
--- A kernel call, by its service. `say` writes the byte in R24 and answers 0. A call of another number is never there.
-abbrev pub act_call : Option Service → Running → KernelState → RunnerState → Acted
-act_call (Some PostShort) run k r = goes_on (post_short k run) r []
-act_call (Some Say) run k r =
-    goes_on (answered k 0) r (line.Say k.clock (id_at k.modules run.domain) (register k.processor 24) ∷ [])
-act_call (Some MyId) run k r = goes_on (answered k (id_at k.modules run.domain)) r []
-act_call None run k r = goes_on k r []
+abbrev pub act_call : Serving → RunnerState → Acted
+act_call s r = act_served s.served s r
 
 -- A unit by its kind. No run has one that is not built: it would end the handler and change nothing.
 abbrev pub act_unit : Unit → Running → KernelState → RunnerState → Acted
 act_unit (Plain i) run k r = goes_on (with_processor k (plain_effect i k.processor)) r []
-act_unit (Store i) run k r = act_store (may_store k run (store_address i k.processor)) i k r
-act_unit (KernelCall n) run k r = act_call (service_of n) run k r
+act_unit (Store i) run k r =
+    act_effect (may_store k run (store_address i k.processor)) rule.Store (store_address i k.processor) i k r
+act_unit (Push s) run k r = act_effect (nat_lt floor k.processor.sp) rule.StackOver k.processor.sp (instr.Push s) k r
+act_unit (Pop d) run k r = act_effect (nat_lt k.processor.sp run.base) rule.StackUnder k.processor.sp (instr.Pop d) k r
+act_unit (SpGroup with_sreg) run k r = act_group (nat_le floor (group_sp k.processor)) with_sreg run k r
+act_unit Reserve run k r = act_reserve (has_room k.processor) k r
+act_unit (Skip i) run k r = act_skip (passes i k.processor) k r
+act_unit (Branch set bit target) run k r = act_branch (taken set bit k.processor) target k r
+act_unit (Jump target) run k r = goes_to target k r []
+act_unit (KernelCall n) run k r = act_call (serve (service_of n) run k) r
 act_unit Return run k r = act_return (k.processor.sp == run.base) k r
 act_unit _ run k r = returns k r
 

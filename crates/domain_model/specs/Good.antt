@@ -14,16 +14,17 @@ use Rattle.domain_model.specs.declared.event.LoaderEvent.{LoaderEvent}
 use Rattle.domain_model.specs.Bytes.{AreBytes}
 use Rattle.domain_model.specs.Prepared.{Module, Prep}
 use Rattle.domain_model.specs.Units.{AreProper}
-use Rattle.domain_model.specs.State.{Processor, Message, radio, Loaded, KernelState, RunnerState, State}
-use Rattle.domain_model.specs.Act.{bank, id_at, is_loaded}
-use Rattle.domain_model.specs.Turn.{in_use}
+use Rattle.domain_model.specs.State.{Processor, Message, radio, payload_address, Loaded, KernelState, RunnerState, State}
+use Rattle.domain_model.specs.Modules.{id_at, in_use, is_loaded}
+use Rattle.domain_model.specs.Act.{bank}
 
--- The processor has all its registers and all bytes of its memory, and each of them is a byte.
+-- The processor has all its registers and all bytes of its memory, and each of them is a byte, as SREG is.
 pub record GoodProcessor (p : Processor) : Type 0 where
   pub registers : length p.registers ≡ register_count
   pub memory : length p.memory ≡ ram_bytes
   pub register_bytes : AreBytes p.registers
   pub memory_bytes : AreBytes p.memory
+  pub sreg_byte : p.sreg < 256
 
 -- The unit at which a dispatch starts is one of these, and so is that of each function that the face provides.
 pub record AreEntered (units : List Unit) (face : Face) (start : ℕ) (starts : List ℕ) : Type 0 where
@@ -52,8 +53,8 @@ AreDistinct (m ∷ ms) = AllByRecursion (IsApart m) ms × AreDistinct ms
 abbrev pub AreOwned : List Loaded → List Segment → Type 0
 AreOwned modules blocks = AllByRecursion (λ b. in_use modules b.owner ≡ true) blocks
 
--- In a handler a loaded domain runs, its next unit is one of its units, and the stack pointer is at its base,
--- for no unit that is built moves it. The message in hand has that module as its receiver.
+-- In a handler a loaded domain runs, its next unit is one of its units, and the stack pointer lies between the floor and the
+-- base. Base and bound are the stack's top, for no unit that is built calls.
 pub record GoodRunning (k : KernelState) (r : RunnerState) (run : Running) : Type 0 where
   pub loaded : in_use k.modules run.domain ≡ true
   pub unit : r.unit < length (bank r run.domain)
@@ -62,19 +63,22 @@ pub record GoodRunning (k : KernelState) (r : RunnerState) (run : Running) : Typ
   pub bound : run.base ≤ run.bound
   pub top : (run.base ≡ stack_top) × (run.bound ≡ stack_top)
 
--- The numbers of a message fit their places in the message frame: all are bytes, but the word is two.
+-- The numbers of a message fit their places in the message frame: all are bytes, but the word, the length and the address are two.
 pub record IsFramed (m : Message) : Type 0 where
   pub to : m.to < 256
   pub from : m.from < 256
   pub sort : m.sort < 256
   pub byte : m.byte < 256
   pub word : m.word < 2 ^ 16
+  pub len : m.len < 2 ^ 16
+  pub address : payload_address m.load < 2 ^ 16
 
--- A message's receiver is loaded, and its sender is the kernel, the radio or loaded.
+-- A message's receiver is loaded, and its sender is the kernel, the radio or loaded. None carries a payload yet.
 pub record IsKnown (modules : List Loaded) (m : Message) : Type 0 where
   pub receiver : is_loaded modules m.to ≡ true
   pub sender : ((m.from ≡ 0) ⊎ (m.from ≡ radio)) ⊎ (is_loaded modules m.from ≡ true)
   pub framed : IsFramed m
+  pub load : m.load ≡ None
 
 abbrev pub GoodHand : List Loaded → Option Message → Type 0
 GoodHand modules None = ⊥

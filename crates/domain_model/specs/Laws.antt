@@ -1,10 +1,12 @@
 -- What holds of every turn of every run.
-use Rattle.std.specs.Prelude.{◌≡◌, ◌≢◌, ◌⊎◌, ℕ, ◌+◌, ◌≤◌, List, [], Option, Some, None, Contains, true, false, slice_index, ⊤}
+use Rattle.std.specs.Prelude.{◌≡◌, ◌≢◌, ◌⊎◌, ℕ, ◌+◌, ◌≤◌, List, [], Option, Some, None, Contains, Bool, true, false, slice_index, ⊤}
 use Rattle.mote_base.specs.Messages.{in_order, unnamed}
 use Rattle.avr_isa.specs.declared.instruction.Instr.{Instr}
 use Rattle.avr_machine.specs.Processor.{Processor as CountingProcessor}
 use Rattle.avr_machine.specs.Effect.{effect}
-use Rattle.avr_machine.specs.Conditions.{IsStraight}
+use Rattle.avr_machine.specs.Conditions.{IsSkip, IsStraight}
+use Rattle.unit_code.specs.Proper.{IsOfKind}
+use Rattle.unit_code.specs.declared.unit.Unit.TheVariants.{Plain, Store, Skip}
 use Rattle.module_image.specs.Links.{bound_slot}
 use Rattle.mote_layout.specs.Memory.{ram_start, red_zone_start, kernel_bytes_start, kernel_bytes_end, kernel}
 use Rattle.mote_layout.specs.Blocks.{without_owner, owns}
@@ -16,9 +18,10 @@ use Rattle.domain_model.specs.declared.fault.UnitEnd.TheVariants.{Fault}
 use Rattle.domain_model.specs.declared.line.TraceLine.{TraceLine}
 use Rattle.domain_model.specs.declared.line.TraceLine.TheVariants as line
 use Rattle.domain_model.specs.State.{Processor, Message, Loaded, KernelState, RunnerState, State, at_counter, without_counter, seats}
-use Rattle.domain_model.specs.Act.{act, plain_effect, bank}
+use Rattle.domain_model.specs.Act.{act, plain_effect, passes, bank}
 use Rattle.domain_model.specs.Free.{enters_kernel}
-use Rattle.domain_model.specs.Turn.{choice, without_domain, Turn, RunBy, RunFrom}
+use Rattle.domain_model.specs.Modules.{without_domain}
+use Rattle.domain_model.specs.Turn.{choice, Turn, RunBy, RunFrom}
 use Rattle.domain_model.specs.Good.{Good}
 
 -- Confinement.
@@ -130,6 +133,23 @@ CounterComesBack = (c : CountingProcessor) → at_counter (without_counter c) c.
 abbrev pub UnitsActAsInstructions : Type 0
 UnitsActAsInstructions = (i : Instr) (over address : ℕ) (p : Processor) → IsStraight i
     → effect i over (at_counter p address) ≡ at_counter (plain_effect i p) address
+
+-- Each unit's instruction is of that sort: it leads to the next one, or it is a skip.
+pub record UnitsAreOfTheirSorts : Type 0 where
+  pub plain : (i : Instr) → IsOfKind (Plain i) → IsStraight i
+  pub store : (i : Instr) → IsOfKind (Store i) → IsStraight i
+  pub skip : (i : Instr) → IsOfKind (Skip i) → IsSkip i
+
+-- where a skip leads, from a program counter that stands at the next instruction
+abbrev pub skipped : Bool → ℕ → ℕ → ℕ
+skipped true over address = over
+skipped false over address = address
+
+-- Wherever the program counter stands, a skip goes behind the next instruction where its unit passes over the next one, and
+-- changes nothing else.
+abbrev pub SkipsPassAsInstructions : Type 0
+SkipsPassAsInstructions = (i : Instr) (over address : ℕ) (p : Processor) → IsSkip i
+    → effect i over (at_counter p address) ≡ at_counter p (skipped (passes i p) over address)
 
 -- Every turn from a good state is lawful.
 abbrev pub TurnsAreLawful : Type 0

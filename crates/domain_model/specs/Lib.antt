@@ -4,6 +4,9 @@ pub mod Units
 pub mod Prepared
 pub mod Files
 pub mod State
+pub mod Modules
+pub mod Given
+pub mod Calls
 pub mod Act
 pub mod Free
 pub mod Turn

@@ -1,6 +1,8 @@
 -- The state of the machine.
-use Rattle.std.specs.Prelude.{⊤, ℕ, List, [], ◌∷◌, ◌++◌, Option, None, replicate, drop, map}
+use Rattle.std.specs.Prelude.{ℕ, List, [], ◌∷◌, ◌++◌, Option, Some, None, replicate, drop, map, if◌then◌else◌}
 use Rattle.mote_layout.specs.Memory.{register_count, message_frame, message_frame_bytes, domain_count, stack_top}
+use Rattle.mote_layout.specs.Blocks.{block_address}
+use Rattle.mote_layout.specs.Parcels.{Payload}
 use Rattle.mote_base.specs.declared.message.Msg.{Msg}
 use Rattle.mote_base.specs.Messages.{Lists}
 use Rattle.mote_layout.specs.declared.segment.Segment.{Segment}
@@ -32,9 +34,9 @@ pub record Processor : Type 0 where
 abbrev pub radio : ℕ
 radio = 255
 
--- A message. None has a payload yet.
+-- A message. Its payload, if it has one, is a block of the kernel's.
 abbrev pub Message : Type 0
-Message = Msg ⊤
+Message = Msg Payload
 
 -- A module that is loaded: what it shows to others, its domain, the address of its state block or 0 where it has
 -- none, the unit at which a dispatch starts, and the units at which the functions that it provides begin.
@@ -124,10 +126,17 @@ with_processor k p = record k { processor = p }
 abbrev pub seats : List Loaded → List Seat
 seats modules = map (λ m. record { domain = m.domain; face = m.face }) modules
 
--- The message frame as a handler finds it: type, sender, receiver, 0 for a short message, its byte and its
--- word low byte first, and nothing more.
+-- the address of a message's payload, or 0
+abbrev pub payload_address : Option Payload → ℕ
+payload_address None = 0
+payload_address (Some p) = block_address p.block
+
+-- The message frame as a handler finds it: type, sender, receiver, 1 for a long message and 0 for a short one, the byte and the
+-- word of a short message, the length and the address of the payload of a long one, and zeros. Each word stands low byte first.
 abbrev pub frame_of : Message → List ℕ
-frame_of m = m.sort ∷ m.from ∷ m.to ∷ 0 ∷ m.byte ∷ low m.word ∷ high m.word ∷ replicate 9 0
+frame_of m =
+    m.sort ∷ m.from ∷ m.to ∷ (if m.long then 1 else 0) ∷ m.byte ∷ low m.word ∷ high m.word ∷ low m.len ∷ high m.len
+    ∷ low (payload_address m.load) ∷ high (payload_address m.load) ∷ replicate 5 0
 
 -- The processor as a handler finds it: R23:R22 is the address of the message frame, R25:R24 that of the
 -- module's state block, every other register and SREG are 0, and the stack is empty.

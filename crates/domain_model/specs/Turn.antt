@@ -1,11 +1,8 @@
 -- Turns and runs.
-use Rattle.std.specs.Prelude.{◌≡◌, ◌≢◌, ℕ, ◌+◌, ◌-◌, ◌*◌, ◌==◌, ◌||◌, nat_le, not, List, [], ◌∷◌, ◌++◌, drop, filter, find, Bool, true, false, Option, Some, None, Ok, Err, slice_get, slice_set, ⊤}
-use Rattle.std.specs.List.{list_any}
-use Rattle.mote_layout.specs.Memory.{ram_start, heap_end, block_bytes, domain_count, stack_top}
+use Rattle.std.specs.Prelude.{◌≡◌, ◌≢◌, ℕ, ◌+◌, ◌==◌, ◌||◌, nat_le, not, List, [], ◌∷◌, ◌++◌, drop, Bool, true, false, Option, Some, None, Ok, Err, slice_get, slice_set, ⊤}
+use Rattle.mote_layout.specs.Memory.{heap_end, stack_top}
 use Rattle.mote_base.specs.Messages.{front, without_front, unnamed}
-use Rattle.mote_layout.specs.Blocks.{block_address, inserted, without_owner}
-use Rattle.mote_layout.specs.Fit.{fit, blocks_for, least_of}
-use Rattle.mote_layout.specs.declared.segment.Segment.{Segment}
+use Rattle.mote_layout.specs.Blocks.{without_owner}
 use Rattle.unit_code.specs.declared.unit.Unit.{Unit}
 use Rattle.domain_model.specs.declared.handler.Running.{Running}
 use Rattle.domain_model.specs.declared.event.LoaderEvent.{LoaderEvent}
@@ -23,54 +20,25 @@ use Rattle.domain_model.specs.declared.line.TraceLine.{TraceLine}
 use Rattle.domain_model.specs.declared.line.TraceLine.TheVariants as line
 use Rattle.domain_model.specs.declared.refusal.Refusal.{Refusal}
 use Rattle.domain_model.specs.Prepared.{Module, Prep, refusal_number, refusal_kind, refusal_value, refusal_detail}
-use Rattle.domain_model.specs.State.{Message, Loaded, KernelState, RunnerState, State, Input, start, dispatched, with_zeros}
-use Rattle.domain_model.specs.Act.{Acted, id_at, is_loaded}
+use Rattle.domain_model.specs.State.{Message, Loaded, KernelState, RunnerState, State, Input, start, dispatched}
+use Rattle.domain_model.specs.Modules.{id_at, is_loaded, module_named, free_domain, without_domain}
+use Rattle.domain_model.specs.Given.{Given, given, nothing_given, with_given}
+use Rattle.domain_model.specs.Act.{Acted}
 use Rattle.domain_model.specs.Free.{SameState, UnitStep, is_kernel_byte}
 
 -- The kernel's part of a turn.
 
--- the lowest domain that no module is in
-abbrev pub in_use : List Loaded → ℕ → Bool
-in_use modules domain = list_any (λ m. m.domain == domain) modules
+-- The state block of a module; none where it asks for no byte.
+abbrev pub state_where : Bool → KernelState → ℕ → ℕ → Option Given
+state_where true k domain size = Some (nothing_given k)
+state_where false k domain size = given k domain size
 
-abbrev pub free_domain : List Loaded → Option ℕ
-free_domain modules = least_of (λ domain. not (in_use modules domain)) 0 domain_count
-
--- the loaded module with that id
-abbrev pub module_named : List Loaded → ℕ → Option Loaded
-module_named modules id = find (λ m. m.face.id == id) modules
-
--- A state block: the blocks of the heap with it, the memory with its bytes cleared, and its address. A
--- module that asks for no byte has none and the address 0.
-pub record Given : Type 0 where
-  pub blocks : List Segment
-  pub memory : List ℕ
-  pub address : ℕ
-
-abbrev pub given_at : Option ℕ → KernelState → ℕ → ℕ → Option Given
-given_at None k domain count = None
-given_at (Some first) k domain count =
-    Some (record {
-      blocks = inserted (record { first = first; count = count; owner = domain }) k.blocks;
-      memory = with_zeros k.processor.memory (block_address first - ram_start) (block_bytes * count);
-      address = block_address first;
-    })
-
-abbrev pub given_where : Bool → KernelState → ℕ → ℕ → Option Given
-given_where true k domain size = Some (record { blocks = k.blocks; memory = k.processor.memory; address = 0 })
-given_where false k domain size = given_at (fit k.blocks (blocks_for size)) k domain (blocks_for size)
-
-abbrev pub given : KernelState → ℕ → ℕ → Option Given
-given k domain size = given_where (size == 0) k domain size
+abbrev pub state_block : KernelState → ℕ → ℕ → Option Given
+state_block k domain size = state_where (size == 0) k domain size
 
 -- the module is in
 abbrev pub admitted : KernelState → Loaded → Given → KernelState
-admitted k m g =
-    record k {
-      processor = record k.processor { memory = g.memory };
-      blocks = g.blocks;
-      modules = k.modules ++ m ∷ [];
-    }
+admitted k m g = record (with_given k g) { modules = k.modules ++ m ∷ [] }
 
 -- the handler of the module in a domain, with its state block at an address, starts with a message
 abbrev pub begun : KernelState → ℕ → ℕ → Message → KernelState
@@ -84,10 +52,6 @@ begun k domain state m =
 -- the handler is over
 abbrev pub handler_ended : KernelState → KernelState
 handler_ended k = record k { running = None; hand = None }
-
--- the modules but the one in a domain
-abbrev pub without_domain : ℕ → List Loaded → List Loaded
-without_domain domain modules = filter (λ m. not (m.domain == domain)) modules
 
 -- The module with an id in a domain is out: its row, every block of its domain, and every message from or to it.
 abbrev pub purged : KernelState → ℕ → ℕ → KernelState
@@ -204,7 +168,7 @@ load_given (Some g) m domain image k r = loaded m domain g k r
 
 abbrev pub load_in : Option ℕ → Module → ℕ → KernelState → RunnerState → Moved
 load_in None m image k r = refused 5 image k r
-load_in (Some domain) m image k r = load_given (given k domain m.state_size) m domain image k r
+load_in (Some domain) m image k r = load_given (state_block k domain m.state_size) m domain image k r
 
 abbrev pub load_new : Bool → Module → ℕ → KernelState → RunnerState → Moved
 load_new true m image k r = refused 4 image k r

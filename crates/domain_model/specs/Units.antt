@@ -1,50 +1,50 @@
--- The units that are built: loads of constants, copies of registers, stores through X, three kernel calls, and returns.
-use Rattle.std.specs.Prelude.{◌==◌, ℕ, ◌<◌, if◌then◌else◌, List, Bool, true, false, Option, Some, None, is_some, IsSome, ⊤}
-use Rattle.std.specs.List.{AllByRecursion, list_all}
-use Rattle.avr_isa.specs.declared.instruction.Instr.TheVariants.{Ldi, Mov, StX}
-use Rattle.mote_layout.specs.Memory.{register_count}
+-- The units that are built: all but the calls between domains and within one, and the checked loads of sealed images;
+-- and of the kernel calls those without payloads and timers.
+use Rattle.std.specs.Prelude.{◌≡◌, ◌==◌, ℕ, if◌then◌else◌, List, Bool, true, false, Option, Some, None, is_some}
+use Rattle.std.specs.List.{list_all}
 use Rattle.unit_code.specs.declared.unit.Unit.{Unit}
-use Rattle.unit_code.specs.declared.unit.Unit.TheVariants.{Plain, Store, KernelCall, Return}
-use Rattle.unit_code.specs.Proper.{IsProper}
+use Rattle.unit_code.specs.declared.unit.Unit.TheVariants.{Load, LocalCall, KernelCall, SlotCall, SlotIndirect}
+use Rattle.unit_code.specs.Proper.{IsOfKind, IsProper}
 
--- The kernel calls that are built: post a short message, say a byte, tell the module's own id.
+-- The kernel calls that are built: give a block, free one, hand one to another module, post a short message, say a byte,
+-- tell the clock, tell the module's own id.
 pub data Service : Type 0 where
+  Malloc : Service
+  Free : Service
+  ChangeOwn : Service
   PostShort : Service
   Say : Service
+  Clock : Service
   MyId : Service
 
 -- by the call's number
 abbrev pub service_of : ℕ → Option Service
 service_of n =
-    if n == 3 then Some PostShort else (if n == 8 then Some Say else (if n == 11 then Some MyId else None))
+    if n == 0 then Some Malloc
+    else (if n == 1 then Some Free
+    else (if n == 2 then Some ChangeOwn
+    else (if n == 3 then Some PostShort
+    else (if n == 8 then Some Say else (if n == 9 then Some Clock else (if n == 11 then Some MyId else None))))))
 
 -- The unit can run. Code with another unit is not built yet: no run has it.
 abbrev pub is_built : Unit → Bool
-is_built (Plain (Ldi d k)) = true
-is_built (Plain (Mov d r)) = true
-is_built (Plain _) = false
-is_built (Store (StX r)) = true
-is_built (Store _) = false
+is_built (Load i) = false
+is_built (LocalCall target) = false
 is_built (KernelCall n) = is_some (service_of n)
-is_built Return = true
-is_built _ = false
+is_built (SlotCall i) = false
+is_built SlotIndirect = false
+is_built _ = true
 
 abbrev pub are_built : List Unit → Bool
 are_built us = list_all is_built us
 
--- The same, with the operands in their ranges.
-abbrev pub IsBuilt : Unit → Type 0
-IsBuilt (Plain (Ldi d k)) = (d < register_count) × (k < 256)
-IsBuilt (Plain (Mov d r)) = (d < register_count) × (r < register_count)
-IsBuilt (Plain _) = ⊥
-IsBuilt (Store (StX r)) = r < register_count
-IsBuilt (Store _) = ⊥
-IsBuilt (KernelCall n) = IsSome (service_of n)
-IsBuilt Return = ⊤
-IsBuilt _ = ⊥
+-- The same of a unit that holds an instruction or a number of its kind, with the operands in their ranges.
+pub record IsBuilt (u : Unit) : Type 0 where
+  pub kind : IsOfKind u
+  pub built : is_built u ≡ true
 
 -- A list of units that may be loaded and can run. It is proper with or without a seal.
 pub record AreProper (us : List Unit) : Type 0 where
   pub sealed : Bool
   pub proper : IsProper us sealed
-  pub built : AllByRecursion IsBuilt us
+  pub built : are_built us ≡ true

@@ -27,8 +27,18 @@ pub enum Rule {
 #[derive(Clone, Copy, Debug, PartialEq, Eq)]
 pub struct FaultNote {
     pub rule: Rule,
-    /// The refused address of a store; the stack pointer for the watchdog and an unbalanced return.
+    /// The refused address of a store or a load; the stack pointer that a group wants; the block's address that isn't the
+    /// caller's; Z for an indirect call of no slot; and the stack pointer for all others.
     pub address: u16,
+}
+
+/// How a kernel call came back.
+#[derive(Clone, Copy, Debug, PartialEq, Eq)]
+pub enum Served {
+    /// The handler goes on.
+    Back,
+    /// The call was refused, and changed nothing.
+    Fault(FaultNote),
 }
 
 /// How a unit ended.

@@ -1,13 +1,16 @@
 //! The laws of the machine. Each stands over the definitions alone.
 ghost use Rattle.domain_model.specs.Facts.{ChoicesAreFounded};
 ghost use Rattle.domain_model.specs.Files.{FilesAreAsPrepared};
-ghost use Rattle.domain_model.specs.Laws.{CounterComesBack, UnitsActAsInstructions, TurnsAreLawful, RunsAreLawful, RunsEnd};
+ghost use Rattle.domain_model.specs.Laws.{CounterComesBack, UnitsActAsInstructions, UnitsAreOfTheirSorts, SkipsPassAsInstructions, TurnsAreLawful, RunsAreLawful, RunsEnd};
 
 /// Law: a unit's instruction does what the processor does by it wherever its program counter stands, for one that leads to
-/// the next instruction; and a program counter is all that the processor of this machine lacks.
+/// the next instruction, as that of each plain unit and of each store does; a skip passes over a unit where the processor
+/// passes over an instruction, and does nothing else; and a program counter is all that the processor of this machine lacks.
 pub fn units_act_as_instructions()
     ensures counter { CounterComesBack }
+    ensures sorts { UnitsAreOfTheirSorts }
     ensures effect { UnitsActAsInstructions }
+    ensures skip { SkipsPassAsInstructions }
 {}
 
 /// Law: which turn comes, in words. Outside a handler an event that is due comes; else a message that waits is

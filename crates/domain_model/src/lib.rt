@@ -29,7 +29,7 @@ mod request;
 mod script;
 
 pub use event::{Choice, LoaderEvent, LoaderOrder, Turned};
-pub use fault::{FaultNote, Rule, UnitEnd};
+pub use fault::{FaultNote, Rule, Served, UnitEnd};
 pub use handler::Running;
 pub use laws::{
     every_good_state_runs_to_an_end, every_turn_is_lawful, files_are_as_prepared,

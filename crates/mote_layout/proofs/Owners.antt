@@ -1,11 +1,13 @@
 -- Who owns an address, and which segment it lies in.
-use Rattle.std.proofs.Common.{◌≡◌, ◌≢◌, ℕ, ◌+◌, ◌≤◌, ◌&&◌, ◌⊎◌, inl, inr, ◌↔◌, leb, ltb, eqb, true, false, List, [], ◌∷◌, Some, None, IsSomeAnd, refl, sym, arith, ◌∙◌, eq-eqb}
+use Rattle.std.proofs.Common.{◌≡◌, ◌≢◌, ℕ, ◌+◌, ◌≤◌, ◌&&◌, ◌⊎◌, inl, inr, ◌↔◌, leb, ltb, eqb, true, false, List, [], ◌∷◌, Option, Some, None, IsSomeAnd, ◌==◌, refl, sym, arith, ◌∙◌, eq-eqb}
 use Rattle.std.proofs.lemmas.Bool.{ltb-true, ltb-false, leb-true, leb-false, and_parts, and_cases, and_from, or_cases, or_left, or_right, le-leb, lt-ltb, cond_both, cond-true, cond-false, cases_Bool, cases_lt, eqb-true, eqb-false}
 use Rattle.std.proofs.lemmas.Option.{none-some}
+use Rattle.std.specs.Option.{option_map_or}
 use Rattle.std.proofs.lemmas.Bool.{false≢true}
 use Rattle.mote_layout.specs.Memory.{heap_start}
 use Rattle.mote_layout.specs.Blocks.{AreBlocksFrom, AreBlocks, block_address, Covers, covers, Owns, owns, segment_at, AreFree, block_of, IsFreeAddress, inserted, without_owner}
 use Rattle.mote_layout.specs.Store.{MayStore, may_store}
+use Rattle.mote_layout.specs.Requests.{beginning_at, Holds, holds}
 use Rattle.mote_layout.specs.declared.segment.Segment.{Segment}
 
 -- the test tells whether an address lies in a segment
@@ -157,3 +159,11 @@ may_store-true ss domain sp bound a =
         | inr stack ↦ or_right (owns ss domain a) (ltb sp a && leb a bound) (and_from (ltb sp a) (leb a bound) (lt-ltb sp a stack.0) (le-leb a bound stack.1))
       ],
     )
+
+-- the test tells whether an address is the start of what an owner was given
+held-true : (o : Option Segment) (owner : ℕ) → (option_map_or (λ (s : Segment). s.owner == owner) o false ≡ true) ↔ IsSomeAnd o (λ s. s.owner ≡ owner)
+held-true None owner = (λ h. absurd (false≢true h), λ h. absurd h)
+held-true (Some s) owner = (λ h. eqb-true s.owner owner h, λ h. eq-eqb s.owner owner h)
+
+pub holds-true : (ss : List Segment) (owner a : ℕ) → (holds ss owner a ≡ true) ↔ Holds ss owner a
+holds-true ss owner a = held-true (beginning_at ss a) owner

@@ -5,4 +5,5 @@ pub mod Load
 pub mod Memory
 pub mod Page
 pub mod Parcels
+pub mod Requests
 pub mod Store

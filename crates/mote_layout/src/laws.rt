@@ -6,6 +6,7 @@ ghost use Rattle.mote_layout.specs.Blocks.{AreBlocks, Owns, owns, block_address,
 ghost use Rattle.mote_layout.specs.Store.{MayStore, may_store};
 ghost use Rattle.mote_layout.specs.Load.{AreConstants, IsConstant, MayLoad, may_load};
 ghost use Rattle.mote_layout.specs.Fit.{IsLeastFit, fit};
+ghost use Rattle.mote_layout.specs.Requests.{Holds, holds};
 ghost use Rattle.mote_layout.specs.declared.segment.Segment.{Segment};
 
 /// Laws of *Blocks* (`specs/Blocks.antt`): which changes of the list keep it, and who owns an address.
@@ -26,6 +27,7 @@ pub fn blocks_laws()
     ensures owns { (ss : List Segment) (owner address : ℕ) → (owns ss owner address ≡ true) ↔ Owns ss owner address }
     ensures may_store { (ss : List Segment) (domain sp bound address : ℕ)
         → (may_store ss domain sp bound address ≡ true) ↔ MayStore ss domain sp bound address }
+    ensures holds { (ss : List Segment) (owner address : ℕ) → (holds ss owner address ≡ true) ↔ Holds ss owner address }
     ensures owner_inserted { (s : Segment) (ss : List Segment) (owner address : ℕ)
         → Owns (inserted s ss) owner address ↔ Owns (s ∷ ss) owner address }
     ensures owner_gone { (gone : ℕ) (ss : List Segment) (owner address : ℕ)

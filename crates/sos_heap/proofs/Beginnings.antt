@@ -6,7 +6,7 @@ use Rattle.mote_layout.specs.Blocks.{FitsBehind, AreBlocksFrom, AreBlocks, block
 use Rattle.mote_layout.specs.declared.segment.Segment.{Segment}
 use Rattle.mote_layout.proofs.Owners.{covers-true, covers-false}
 use Rattle.mote_layout.proofs.OneSegment.{starting_at-fits}
-use Rattle.sos_heap.specs.Requests.{beginning_at}
+use Rattle.mote_layout.specs.Requests.{beginning_at}
 
 -- no segment behind a block begins at an address below it
 beginning_at-below : (low : ℕ) (ss : List Segment) (a : ℕ) → AreBlocksFrom low ss → a < block_address low → beginning_at ss a ≡ None

@@ -6,7 +6,7 @@ use Rattle.mote_layout.specs.Blocks.{AreBlocksFrom, AreBlocks, starting_at, inse
 use Rattle.mote_layout.specs.Fit.{blocks_for}
 use Rattle.mote_layout.specs.declared.segment.Segment.{Segment}
 use Rattle.mote_layout.proofs.BlockLists.{AreBlocks-inserted, AreBlocks-without, AreBlocks-handed_over}
-use Rattle.sos_heap.specs.Requests.{place_for, segment_for, served, beginning_at}
+use Rattle.mote_layout.specs.Requests.{place_for, segment_for, served, beginning_at}
 use Rattle.mote_layout.specs.Parcels.{Payload, IsParcelOf}
 use Rattle.mote_layout.specs.Parcels.{kernel_entries, naming, KernelStays, KernelGains, KernelLoses}
 use Rattle.sos_heap.proofs.Beginnings.{begins_at}

@@ -7,7 +7,7 @@ use Rattle.mote_layout.specs.Blocks.{AreBlocksFrom, AreFree, Fits, block_address
 use Rattle.mote_layout.specs.Fit.{blocks_for, fit}
 use Rattle.mote_layout.specs.declared.segment.Segment.{Segment}
 use Rattle.mote_layout.proofs.LeastFit.{fit-some, fit-none}
-use Rattle.sos_heap.specs.Requests.{place_for, HasNoPlace, LiesInHeap}
+use Rattle.mote_layout.specs.Requests.{place_for, HasNoPlace, LiesInHeap}
 
 -- What is known of the place of a request.
 pub record IsPlace (ss : List Segment) (size block : ℕ) : Type 0 where

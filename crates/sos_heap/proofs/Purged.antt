@@ -6,7 +6,7 @@ use Rattle.mote_layout.specs.Memory.{block_count, block_bytes, kernel}
 use Rattle.mote_layout.specs.Blocks.{AreBlocksFrom, AreBlocks, block_address, starting_at, without, without_owner}
 use Rattle.mote_layout.specs.declared.segment.Segment.{Segment}
 use Rattle.mote_layout.proofs.OneSegment.{starting_at-fits, without_owner-without}
-use Rattle.sos_heap.specs.Requests.{beginning_at, Holds}
+use Rattle.mote_layout.specs.Requests.{beginning_at, Holds}
 use Rattle.mote_layout.specs.Parcels.{Payload, IsParcelOf}
 use Rattle.mote_layout.specs.Parcels.{kernel_entries, KernelStays}
 use Rattle.sos_heap.proofs.Beginnings.{beginning_at-starting_at, beginning_at-first, begins_at}

@@ -2,7 +2,7 @@
 
 ghost use Rattle.std.specs.Prelude.{◌≡◌, ◌≤◌};
 ghost use Rattle.mote_layout.specs.Blocks.{AreBlocks};
-ghost use Rattle.sos_heap.specs.Requests.{place_for, served};
+ghost use Rattle.mote_layout.specs.Requests.{place_for, served};
 
 use crate::blocks::Blocks;
 use mote_layout::{BLOCK_BYTES, KERNEL};

@@ -3,7 +3,7 @@
 ghost use Rattle.std.specs.Prelude.{◌≡◌, ◌<◌, ◌↔◌, [], None, IfOk, IfSome, OnOk, OnErr, IsErr, IsTrue, MatchOption};
 ghost use Rattle.mote_layout.specs.Memory.{kernel};
 ghost use Rattle.mote_layout.specs.Blocks.{AreBlocks, block_address, block_of, without, without_owner, handed_over};
-ghost use Rattle.sos_heap.specs.Requests.{address_for, HasNoPlace, LiesInHeap, payload_for, served, Holds, HoldsBytes};
+ghost use Rattle.mote_layout.specs.Requests.{address_for, HasNoPlace, LiesInHeap, payload_for, served, Holds, HoldsBytes};
 ghost use Rattle.mote_layout.specs.Parcels.{IsParcelOf};
 ghost use Rattle.mote_layout.specs.Parcels.{KernelStays, KernelGains, KernelLoses};
 

@@ -3,7 +3,7 @@
 ghost use Rattle.std.specs.Prelude.{◌≡◌, ◌≤◌, ◌*◌, Some, IfOk, IsErr, ◌↔◌, MatchResult};
 ghost use Rattle.mote_layout.specs.Blocks.{AreBlocks, starting_at, handed_over, without_owner};
 ghost use Rattle.mote_layout.specs.Memory.{block_bytes};
-ghost use Rattle.sos_heap.specs.Requests.{beginning_at, Holds, HoldsBytes};
+ghost use Rattle.mote_layout.specs.Requests.{beginning_at, Holds, HoldsBytes};
 
 use crate::blocks::Blocks;
 use memory_map::Segment;

@@ -1,6 +1,6 @@
 -- Each law is a lemma on lists of segments.
 use Rattle.mote_layout.proofs.BlockLists.{AreBlocks-inserted, AreBlocks-without, AreBlocks-without_owner, AreBlocks-handed_over}
-use Rattle.mote_layout.proofs.Owners.{Owns-segment_at, segment_at-none, owns-true, may_store-true, Owns-inserted, Owns-without_owner}
+use Rattle.mote_layout.proofs.Owners.{Owns-segment_at, segment_at-none, owns-true, may_store-true, holds-true, Owns-inserted, Owns-without_owner}
 use Rattle.mote_layout.proofs.laws.blocks_laws.Goals as goal
 
 pub returns-clause-inserted : goal.returns-clause-inserted
@@ -26,6 +26,9 @@ returns-clause-owns c = owns-true
 
 pub returns-clause-may_store : goal.returns-clause-may_store
 returns-clause-may_store c = may_store-true
+
+pub returns-clause-holds : goal.returns-clause-holds
+returns-clause-holds c = holds-true
 
 pub returns-clause-owner_inserted : goal.returns-clause-owner_inserted
 returns-clause-owner_inserted c = Owns-inserted

@@ -1,7 +1,7 @@
 -- A domain gets the place of its request, and the kernel's entries stay.
 use Rattle.std.proofs.Common.{◌≡◌, Some, None, sym, ◌∙◌, arith}
 use Rattle.std.proofs.lemmas.Option.{none-some}
-use Rattle.sos_heap.specs.Requests.{place_for}
+use Rattle.mote_layout.specs.Requests.{place_for}
 use Rattle.sos_heap.proofs.Places.{placed, no_place, a_place, lies_at}
 use Rattle.sos_heap.proofs.Entries.{served_stays}
 use Rattle.sos_heap.proofs.heap.Heap.give.Goals as goal

@@ -1,7 +1,7 @@
 -- The kernel gets the place of its request, which is the parcel's.
 use Rattle.std.proofs.Common.{◌≡◌, Some, None, sym, ap, ◌∙◌, arith}
 use Rattle.std.proofs.lemmas.Option.{none-some}
-use Rattle.sos_heap.specs.Requests.{place_for}
+use Rattle.mote_layout.specs.Requests.{place_for}
 use Rattle.mote_layout.specs.Blocks.{block_address}
 use Rattle.mote_layout.specs.Parcels.{Payload}
 use Rattle.sos_heap.proofs.Places.{placed, no_place, a_place, lies_at}

@@ -1,6 +1,6 @@
 -- Requests for bytes of the heap, and the blocks that the calls name by an address. What is given out as one is
 -- one segment of the list, of as many blocks as hold the bytes asked for.
-use Rattle.std.specs.Prelude.{◌≡◌, ℕ, ◌==◌, ◌+◌, ◌*◌, ◌≤◌, ◌⊎◌, List, Option, None, find, option_map, IsSomeAnd, if◌then◌else◌}
+use Rattle.std.specs.Prelude.{◌≡◌, ℕ, ◌==◌, ◌+◌, ◌*◌, ◌≤◌, ◌⊎◌, Bool, false, List, Option, None, find, option_map, IsSomeAnd, if◌then◌else◌}
 use Rattle.std.specs.Option.{option_map_or}
 use Rattle.mote_layout.specs.Memory.{block_bytes, heap_start, heap_end}
 use Rattle.mote_layout.specs.Blocks.{block_address, Fits, inserted}
@@ -43,6 +43,10 @@ beginning_at ss address = find (λ s. block_address s.first == address) ss
 -- An address is the start of what this owner was given.
 abbrev pub Holds : List Segment → ℕ → ℕ → Type 0
 Holds ss owner address = IsSomeAnd (beginning_at ss address) (λ s. s.owner ≡ owner)
+
+-- `Holds` as a test
+abbrev pub holds : List Segment → ℕ → ℕ → Bool
+holds ss owner address = option_map_or (λ (s : Segment). s.owner == owner) (beginning_at ss address) false
 
 -- An address is the start of what this owner was given, and that has so many bytes at least.
 abbrev pub HoldsBytes : List Segment → ℕ → ℕ → ℕ → Type 0

@@ -1,0 +1,114 @@
+-- What each kernel call does. Its answer is in R25:R24; all other registers, SREG and SP stay.
+use Rattle.std.specs.Prelude.{ℕ, ◌%◌, ◌==◌, nat_lt, List, [], ◌∷◌, length, Bool, true, false, Option, Some, None}
+use Rattle.mote_base.specs.Messages.{list_of, appended, queue_limit}
+use Rattle.mote_layout.specs.Blocks.{block_of, without, handed_over}
+use Rattle.mote_layout.specs.Requests.{holds}
+use Rattle.domain_model.specs.declared.handler.Running.{Running}
+use Rattle.domain_model.specs.declared.fault.Rule.TheVariants as rule
+use Rattle.domain_model.specs.declared.fault.Served.{Served}
+use Rattle.domain_model.specs.declared.fault.Served.TheVariants.{Back, Fault}
+use Rattle.domain_model.specs.declared.line.TraceLine.{TraceLine}
+use Rattle.domain_model.specs.declared.line.TraceLine.TheVariants as line
+use Rattle.domain_model.specs.State.{Message, Loaded, KernelState, register, pair, with_pair, with_processor}
+use Rattle.domain_model.specs.Units.{Service, Malloc, Free, ChangeOwn, PostShort, Say, Clock, MyId}
+use Rattle.domain_model.specs.Modules.{id_at, is_loaded, module_named}
+use Rattle.domain_model.specs.Given.{Given, given, with_given}
+
+-- The kernel after a call, the lines that it wrote, and how it came back.
+pub record Serving : Type 0 where
+  pub kernel : KernelState
+  pub lines : List TraceLine
+  pub served : Served
+
+abbrev pub comes_back : KernelState → List TraceLine → Serving
+comes_back k lines = record { kernel = k; lines = lines; served = Back }
+
+-- a block argument that isn't the caller's: the call changes nothing, and the fault tells the argument
+abbrev pub not_owned : ℕ → KernelState → Serving
+not_owned address k =
+    record { kernel = k; lines = []; served = Fault (record { rule = rule.Owner; address = address }) }
+
+-- with the answer in R25:R24
+abbrev pub answered : KernelState → ℕ → KernelState
+answered k answer = with_processor k (with_pair k.processor 24 answer)
+
+-- `malloc` gives the caller a block for R25:R24 bytes and answers its address, or 0 where none is given.
+abbrev pub malloc_given : Option Given → KernelState → KernelState
+malloc_given None k = answered k 0
+malloc_given (Some g) k = answered (with_given k g) g.address
+
+abbrev pub malloc : KernelState → Running → KernelState
+malloc k run = malloc_given (given k run.domain (pair k.processor 24)) k
+
+-- `free` frees the caller's block that begins at R25:R24, and answers 0. The block keeps its bytes.
+abbrev pub free_held : Bool → ℕ → KernelState → Serving
+free_held false address k = not_owned address k
+free_held true address k = comes_back (answered (record k { blocks = without (block_of address) k.blocks }) 0) []
+
+abbrev pub free : KernelState → Running → Serving
+free k run = free_held (holds k.blocks run.domain (pair k.processor 24)) (pair k.processor 24) k
+
+-- `change_own` gives the caller's block that begins at R25:R24 to the module in R22 and answers 0, or answers 1 where
+-- that isn't loaded. What is no block of the caller's is refused first.
+abbrev pub changed_to : Option Loaded → ℕ → KernelState → KernelState
+changed_to None address k = answered k 1
+changed_to (Some owner) address k =
+    answered (record k { blocks = handed_over (block_of address) owner.domain k.blocks }) 0
+
+abbrev pub change_held : Bool → ℕ → KernelState → Serving
+change_held false address k = not_owned address k
+change_held true address k = comes_back (changed_to (module_named k.modules (register k.processor 22)) address k) []
+
+abbrev pub change_own : KernelState → Running → Serving
+change_own k run = change_held (holds k.blocks run.domain (pair k.processor 24)) (pair k.processor 24) k
+
+-- The short message that the registers of a post ask for: to the module in R24, with the type in R22, the byte in
+-- R20 and the word in R19:R18, by the high queue where bit 0 of R16 is set. The sender is the running module.
+abbrev pub message_of : KernelState → Running → Message
+message_of k run =
+    record {
+      to = register k.processor 24;
+      from = id_at k.modules run.domain;
+      sort = register k.processor 22;
+      byte = register k.processor 20;
+      word = pair k.processor 18;
+      long = false;
+      len = 0;
+      load = None;
+      high = register k.processor 16 % 2 == 1;
+    }
+
+-- `post_short` answers 2 where its receiver isn't loaded, else 1 where its queue is full, and else posts and answers 0.
+abbrev pub post_where : Bool → Message → KernelState → KernelState
+post_where true m k = answered (record k { queues = appended m.high m k.queues }) 0
+post_where false m k = answered k 1
+
+abbrev pub post_to : Bool → Message → KernelState → KernelState
+post_to true m k = post_where (nat_lt (length (list_of m.high k.queues)) queue_limit) m k
+post_to false m k = answered k 2
+
+abbrev pub post_short : KernelState → Running → KernelState
+post_short k run = post_to (is_loaded k.modules (message_of k run).to) (message_of k run) k
+
+-- `say` writes the byte in R24 and answers 0.
+abbrev pub say : KernelState → Running → Serving
+say k run = comes_back (answered k 0) (line.Say k.clock (id_at k.modules run.domain) (register k.processor 24) ∷ [])
+
+-- `clock` answers the clock modulo 65,536.
+abbrev pub clock : KernelState → KernelState
+clock k = answered k (k.clock % 65536)
+
+-- `my_id` answers the running module's id.
+abbrev pub my_id : KernelState → Running → KernelState
+my_id k run = answered k (id_at k.modules run.domain)
+
+-- A kernel call, by its service. A call of another number is never there.
+abbrev pub serve : Option Service → Running → KernelState → Serving
+serve (Some Malloc) run k = comes_back (malloc k run) []
+serve (Some Free) run k = free k run
+serve (Some ChangeOwn) run k = change_own k run
+serve (Some PostShort) run k = comes_back (post_short k run) []
+serve (Some Say) run k = say k run
+serve (Some Clock) run k = comes_back (clock k) []
+serve (Some MyId) run k = comes_back (my_id k run) []
+serve None run k = comes_back k []

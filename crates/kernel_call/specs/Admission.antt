@@ -1,0 +1,44 @@
+-- A module comes in.
+use Rattle.std.specs.Prelude.{ℕ, List, Bool, true, false, Option, Some, None}
+use Rattle.module_image.specs.declared.face.Face.{Face}
+use Rattle.domain_model.specs.State.{Loaded, KernelState}
+use Rattle.domain_model.specs.Modules.{is_loaded, free_domain}
+use Rattle.domain_model.specs.Given.{Given}
+use Rattle.domain_model.specs.Turn.{admitted, state_block}
+use Rattle.kernel_call.specs.declared.admitted.Admitted.{Admitted}
+use Rattle.kernel_call.specs.declared.admitted.Admitted.TheVariants.{Placed, Duplicate, Domain, Room}
+
+-- A module that asks to come in: what it shows to others, the bytes of state that it asks for, the unit at which a
+-- dispatch starts, and the units at which the functions that it provides begin.
+pub record Newcomer : Type 0 where
+  pub face : Face
+  pub state_size : ℕ
+  pub handler : ℕ
+  pub entries : List ℕ
+
+-- The kernel after an admission, and the answer.
+pub record Admission : Type 0 where
+  pub kernel : KernelState
+  pub answer : Admitted
+
+-- the module in a domain, with its state block
+abbrev pub seat_of : Newcomer → ℕ → Given → Loaded
+seat_of m domain g =
+    record { face = m.face; domain = domain; state = g.address; handler = m.handler; entries = m.entries }
+
+-- Nothing changes where a module with the id is loaded, else where no domain is free, else where no run of blocks is long enough
+-- for the state. Else the module is in the lowest free domain.
+abbrev pub admit_given : Option Given → Newcomer → ℕ → KernelState → Admission
+admit_given None m domain k = record { kernel = k; answer = Room }
+admit_given (Some g) m domain k = record { kernel = admitted k (seat_of m domain g) g; answer = Placed domain }
+
+abbrev pub admit_in : Option ℕ → Newcomer → KernelState → Admission
+admit_in None m k = record { kernel = k; answer = Domain }
+admit_in (Some domain) m k = admit_given (state_block k domain m.state_size) m domain k
+
+abbrev pub admit_new : Bool → Newcomer → KernelState → Admission
+admit_new true m k = record { kernel = k; answer = Duplicate }
+admit_new false m k = admit_in (free_domain k.modules) m k
+
+abbrev pub admission : KernelState → Newcomer → Admission
+admission k m = admit_new (is_loaded k.modules m.face.id) m k

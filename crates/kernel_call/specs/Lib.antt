@@ -1,0 +1,6 @@
+pub mod Rows
+pub mod Sound
+pub mod Admission
+pub mod Lending
+pub mod Runners
+pub mod Values

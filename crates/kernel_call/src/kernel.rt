@@ -1,0 +1,176 @@
+//! The kernel's state, and what it tells of it.
+ghost use Rattle.std.specs.Prelude.{◌≡◌, ◌<◌, ℕ, IfOk, IfSome, IsSome, Some, is_some, option_map};
+ghost use Rattle.std.specs.Borrow.{sem};
+ghost use Rattle.mote_base.specs.Messages.{front};
+ghost use Rattle.mote_layout.specs.Memory.{domain_count};
+ghost use Rattle.domain_model.specs.State.{no_kernel, without_counter};
+ghost use Rattle.domain_model.specs.Act.{may_store};
+ghost use Rattle.domain_model.specs.Modules.{module_at, module_named};
+ghost use Rattle.kernel_call.specs.Lending.{LendsCpu};
+ghost use Rattle.kernel_call.specs.Rows.{row_of};
+
+use crate::loaded::ModuleRow;
+use crate::modules::Modules;
+use avr_machine::Cpu;
+use domain_model::Running;
+use mote_base::{Msg, NoMemory};
+use msg_queue::Queues;
+use sos_heap::{Heap, Parcel};
+use std::alloc::Global;
+use std::marker::Model;
+use store_check::{Window, check_store};
+
+/// The kernel. It is seen as the machine's kernel state, with a processor that has no program counter.
+#[derive(Drop)]
+pub struct Kernel {
+    pub(crate) clock: u64,
+    pub(crate) cpu: Cpu,
+    pub(crate) heap: Heap,
+    pub(crate) modules: Modules,
+    pub(crate) queues: Queues<Parcel>,
+    pub(crate) running: Option<Running>,
+    pub(crate) hand: Option<Msg<Parcel>>,
+    pub(crate) ending: Option<u8>,
+}
+
+impl Model for Kernel {
+    ghost use Rattle.domain_model.specs.State.{KernelState, without_counter};
+    ghost use Rattle.kernel_call.specs.Sound.{IsSound};
+
+    ghost Value = { KernelState };
+
+    ghost view = { λ k. record {
+      clock = k.clock;
+      processor = without_counter k.cpu;
+      blocks = k.heap;
+      modules = k.modules;
+      queues = k.queues;
+      running = k.running;
+      hand = k.hand;
+      ending = k.ending;
+    } };
+
+    ghost invariant = { λ k. IsSound k.clock k.running k.hand k.ending k.modules k.queues };
+}
+
+impl Kernel {
+    /// Nothing is loaded, no message waits, and nothing runs. No later call takes memory.
+    pub fn new(alloc: Global) -> Result<Kernel, NoMemory>
+        ensures { IfOk result (λ k. k ≡ no_kernel) }
+    {
+        Ok(Kernel {
+            clock: 0,
+            cpu: Cpu::new(alloc)?,
+            heap: Heap::new(alloc)?,
+            modules: Modules::new(alloc)?,
+            queues: Queues::new(alloc)?,
+            running: None,
+            hand: None,
+            ending: None,
+        })
+    }
+
+    /// How many units of time have passed.
+    pub fn clock(&self) -> u64
+        ensures { result ≡ self.now.clock }
+    {
+        self.clock
+    }
+
+    /// The domain that runs; none outside a handler.
+    pub fn running(&self) -> Option<u8>
+        ensures { result ≡ option_map (λ run. run.domain) self.now.running }
+    {
+        match self.running {
+            Some(run) => Some(run.domain),
+            None => None,
+        }
+    }
+
+    /// What runs, with the part of the stack that is its own; none outside a handler.
+    pub fn handler(&self) -> Option<Running>
+        ensures { result ≡ self.now.running }
+    {
+        self.running
+    }
+
+    /// The module in a domain.
+    pub fn module_at(&self, d: u8) -> Option<ModuleRow>
+        ensures { result ≡ option_map row_of (module_at self.now.modules d) }
+    {
+        self.modules.at(d)
+    }
+
+    /// The module with an id. It is the one in its domain.
+    pub fn module_named(&self, id: u8) -> Option<ModuleRow>
+        ensures row { result ≡ option_map row_of (module_named self.now.modules id) }
+        ensures there { IfSome result (λ row. module_at self.now.modules row.domain ≡ module_named self.now.modules id) }
+    {
+        self.modules.known();
+        self.modules.named(id)
+    }
+
+    /// Whether a message waits.
+    pub fn has_message(&self) -> bool
+        ensures { result ≡ is_some (front self.now.queues) }
+    {
+        self.queues.count(true) > 0 || self.queues.count(false) > 0
+    }
+
+    /// The stack of the running domain.
+    pub fn window(&self) -> Window
+        requires handler { IsSome self.now.running }
+        ensures { IfSome self.now.running (λ run.
+            result ≡ record { sp = self.now.processor.sp; base = run.base; bound = run.bound }) }
+    {
+        let run = self.run();
+        self.window_of(&run)
+    }
+
+    /// The processor. Its program counter means nothing.
+    pub fn cpu(&self) -> &Cpu
+        ensures { without_counter result.now ≡ self.now.processor }
+    {
+        &self.cpu
+    }
+
+    /// Lends the processor. Nothing else changes through it, and where its program counter is left is not kept.
+    pub fn cpu_mut(&mut self) -> &mut Cpu
+        ensures* lends { sem 𝓛 (LendsCpu self.entry result) }
+        ensures value { without_counter result.now ≡ self.old.processor }
+    {
+        &mut self.cpu
+    }
+
+    /// Whether the running domain may store to an address.
+    pub fn may_store(&self, a: u16) -> bool
+        requires handler { IsSome self.now.running }
+        ensures { IfSome self.now.running (λ run. result ≡ may_store self.now run a) }
+    {
+        let run = self.run();
+        let window = self.window_of(&run);
+        check_store(self.heap.map(), &window, run.domain, a)
+    }
+
+    fn window_of(&self, run: &Running) -> Window
+        ensures { result ≡ record { sp = self.now.processor.sp; base = run.now.base; bound = run.now.bound } }
+    {
+        Window {
+            sp: self.cpu.sp,
+            base: run.base,
+            bound: run.bound,
+        }
+    }
+
+    /// What runs, in a handler.
+    pub(crate) fn run(&self) -> Running
+        requires { IsSome self.now.running }
+        ensures running { self.now.running ≡ Some result }
+        ensures domain { result.domain < domain_count }
+    {
+        match self.running {
+            Some(run) => run,
+            None => unreachable!(),
+        }
+    }
+}

@@ -1,0 +1,24 @@
+//! The kernel: the processor, the owned blocks, the loaded modules, the messages, and what runs.
+//!
+//! A [`Kernel`] is seen as the machine's `KernelState` of `domain_model`, and each of its calls is one equation on it:
+//! `Kernel::serve` is a kernel call of the running module (`Calls` there), and the turn calls are the kernel's parts of the
+//! turns (`Turn`). `Kernel::cpu_mut` lends the processor, and nothing else changes through it. The kernel keeps of itself
+//! what its calls need (`specs/Sound.antt`), and nothing of the processor's values.
+//!
+//! [`Runner`] is what runs the units of the loaded modules over a kernel. Its law ties it to the machine's step of a unit,
+//! which leaves the free bytes open: a runner may do with those what it likes.
+#![tactic(auto)]
+
+mod admitted;
+mod frame;
+mod kernel;
+mod loaded;
+mod modules;
+mod runner;
+mod serve;
+mod turns;
+
+pub use admitted::Admitted;
+pub use kernel::Kernel;
+pub use loaded::ModuleRow;
+pub use runner::Runner;
