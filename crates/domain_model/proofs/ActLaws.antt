@@ -13,7 +13,9 @@ use Rattle.unit_code.specs.declared.unit.Unit.TheVariants.{Plain, Store, KernelC
 use Rattle.domain_model.specs.declared.handler.Running.{Running}
 use Rattle.domain_model.specs.declared.line.TraceLine.TheVariants as line
 use Rattle.domain_model.specs.State.{Processor, Message, KernelState, RunnerState, register, with_register, with_byte}
-use Rattle.domain_model.specs.Act.{act, act_running, act_at, act_store, act_return, act_call, is_loaded, message_of, post_where, post_to, plain_effect, store_address, may_store, bank, next_unit}
+use Rattle.domain_model.specs.Modules.{is_loaded}
+use Rattle.domain_model.specs.Calls.{message_of, post_where, post_to}
+use Rattle.domain_model.specs.Act.{act, act_running, act_at, act_store, act_return, act_call, plain_effect, store_address, may_store, bank, next_unit}
 use Rattle.domain_model.specs.Units.{IsBuilt, AreProper, Service, PostShort, Say, MyId, service_of}
 use Rattle.domain_model.specs.Good.{GoodMachine, GoodModule, GoodHandler, GoodRunning, GoodHand, GoodEnding}
 use Rattle.unit_code.specs.Ends.{leaves}

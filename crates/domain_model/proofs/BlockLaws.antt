@@ -13,7 +13,9 @@ use Rattle.mote_layout.proofs.Owners.{covers-true}
 use Rattle.mote_layout.proofs.LeastFit.{fit-some}
 use Rattle.domain_model.specs.Bytes.{AreBytes}
 use Rattle.domain_model.specs.State.{Loaded, KernelState, with_zeros}
-use Rattle.domain_model.specs.Turn.{in_use, free_domain, Given, given_at, given_where, given, without_domain}
+use Rattle.domain_model.specs.Modules.{in_use, free_domain, without_domain}
+use Rattle.domain_model.specs.Given.{Given, given_at, given}
+use Rattle.domain_model.specs.Turn.{given_where}
 use Rattle.domain_model.specs.Good.{AreOwned}
 use Rattle.domain_model.proofs.ByteLists.{zeros_bytes}
 use Rattle.domain_model.proofs.Kept.{each_weaker, each_filter}

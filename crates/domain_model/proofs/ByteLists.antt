@@ -12,7 +12,8 @@ use Rattle.avr_machine.specs.Processor.{low, high}
 use Rattle.domain_model.specs.Bytes.{AreBytes}
 use Rattle.domain_model.specs.Units.{IsBuilt}
 use Rattle.domain_model.specs.State.{Processor, Message, Loaded, RunnerState, register, with_register, pair, with_pair, with_zeros, frame_of, dispatched}
-use Rattle.domain_model.specs.Act.{id_at, plain_effect, store_address}
+use Rattle.domain_model.specs.Modules.{id_at}
+use Rattle.domain_model.specs.Act.{plain_effect, store_address}
 use Rattle.domain_model.specs.Free.{SameBut}
 use Rattle.domain_model.specs.Turn.{kernel_message}
 use Rattle.domain_model.specs.Good.{GoodProcessor, GoodModule, IsFramed}
