@@ -15,8 +15,8 @@ use Rattle.mote_layout.specs.Page.{entry_at}
 use Rattle.mote_layout.specs.declared.page.Entry.{Entry}
 use Rattle.mote_layout.specs.declared.page.Entry.TheVariants.{Kernel, Slot}
 use Rattle.unit_code.specs.declared.kinds.Standing.TheVariants.{Barred}
-use Rattle.unit_code.specs.declared.unit.Unit.{Unit}
-use Rattle.unit_code.specs.declared.unit.Unit.TheVariants.{Plain, Store, Skip}
+use Rattle.unit_code.specs.declared.unit.Unit.{Unit as CodeUnit}
+use Rattle.unit_code.specs.declared.unit.Unit.TheVariants.{Plain, Store, Reserve, Skip, KernelCall, SlotCall}
 use Rattle.unit_code.specs.Kinds.{whole, off_pointer, is_spl_or_sph, is_sreg, standing_of, standing_in, standing_out, standing_entry, standing_call, standing_rcall}
 use Rattle.unit_code.specs.Proper.{IsOfKind}
 use Rattle.domain_model.specs.State.{Processor, at_counter, register}
@@ -33,7 +33,7 @@ acts_at_every_counter i over address p straight = straight_leaves_pc i over addr
 -- Sorts of instructions.
 
 -- a pointer that moves is not the register
-off_apart : (pointer d : ℕ) (u v : Unit) → off_pointer pointer d u ≡ whole v → IsApartFrom pointer d
+off_apart : (pointer d : ℕ) (u v : CodeUnit) → off_pointer pointer d u ≡ whole v → IsApartFrom pointer d
 off_apart pointer d u v e =
     elim (cases_Bool (d == pointer || d == pointer + 1)) [
       | inl there ↦ let barred : Barred 6 ≡ whole v = rw there at e in absurd (cc)
@@ -43,98 +43,68 @@ off_apart pointer d u v e =
     ]
 
 -- IN reads the ports of SP and SREG, and OUT writes that of SREG
-in_ports : (a b c : Bool) (u v : Unit) → cond ((a || b) || c) (whole u) (Barred 4) ≡ whole v → IsTrue (a || (b || c))
+in_ports : (a b c : Bool) (u v : CodeUnit) → cond ((a || b) || c) (whole u) (Barred 4) ≡ whole v → IsTrue (a || (b || c))
 in_ports true b c u v e = refl
 in_ports false true c u v e = refl
 in_ports false false true u v e = refl
 in_ports false false false u v e = absurd (cc)
 
-no_port : (b : Bool) (v : Unit) → cond b (Barred 5) (Barred 4) ≡ whole v → ⊥
+no_port : (b : Bool) (v : CodeUnit) → cond b (Barred 5) (Barred 4) ≡ whole v → ⊥
 no_port true v h = cc
 no_port false v h = cc
 
-out_port : (port : ℕ) (u v : Unit) → standing_out port u ≡ whole v → port ≡ sreg_port
+pub out_port : (port : ℕ) (u v : CodeUnit) → standing_out port u ≡ whole v → port ≡ sreg_port
 out_port port u v e =
     elim (cases_Bool (is_sreg port)) [
       | inl there ↦ eqb-true port sreg_port there
       | inr other ↦ absurd (no_port (is_spl_or_sph port) v (rw other at e))
     ]
 
-off_not_skip : (pointer d : ℕ) (u : Unit) (j : Instr) → off_pointer pointer d u ≡ whole (Skip j) → (whole u ≡ whole (Skip j) → ⊥) → ⊥
-off_not_skip pointer d u j e other =
+-- a unit of one sort is none of another
+pub off_not : (pointer d : ℕ) (u v : CodeUnit) → off_pointer pointer d u ≡ whole v → (whole u ≡ whole v → ⊥) → ⊥
+off_not pointer d u v e other =
     elim (cases_Bool (d == pointer || d == pointer + 1)) [
-      | inl there ↦ let barred : Barred 6 ≡ whole (Skip j) = rw there at e in cc
+      | inl there ↦ let barred : Barred 6 ≡ whole v = rw there at e in cc
       | inr apart ↦ other (rw apart at e)
     ]
 
-in_not_skip : (port : ℕ) (i j : Instr) → standing_in port (Plain i) ≡ whole (Skip j) → ⊥
-in_not_skip port i j e =
+pub in_not : (port : ℕ) (u v : CodeUnit) → standing_in port u ≡ whole v → (whole u ≡ whole v → ⊥) → ⊥
+in_not port u v e other =
     elim (cases_Bool (is_spl_or_sph port || is_sreg port)) [
-      | inl there ↦ let plain : whole (Plain i) ≡ whole (Skip j) = rw there at e in cc
-      | inr other ↦ let barred : Barred 4 ≡ whole (Skip j) = rw other at e in cc
+      | inl there ↦ other (rw there at e)
+      | inr none ↦ let barred : Barred 4 ≡ whole v = rw none at e in cc
     ]
 
-out_not_skip : (port : ℕ) (i j : Instr) → standing_out port (Plain i) ≡ whole (Skip j) → ⊥
-out_not_skip port i j e =
+pub out_not : (port : ℕ) (u v : CodeUnit) → standing_out port u ≡ whole v → (whole u ≡ whole v → ⊥) → ⊥
+out_not port u v e other =
     elim (cases_Bool (is_sreg port)) [
-      | inl there ↦ let plain : whole (Plain i) ≡ whole (Skip j) = rw there at e in cc
-      | inr other ↦ no_port (is_spl_or_sph port) (Skip j) (rw other at e)
+      | inl there ↦ other (rw there at e)
+      | inr none ↦ no_port (is_spl_or_sph port) v (rw none at e)
     ]
 
--- no call is plain
-entry_not_plain : (o : Option Entry) (i : Instr) → standing_entry o ≡ whole (Plain i) → ⊥
-entry_not_plain (Some (Kernel n)) i e = cc
-entry_not_plain (Some (Slot n)) i e = cc
-entry_not_plain (Some _) i e = cc
-entry_not_plain None i e = cc
+-- a call enters the kernel or a slot, or is refused
+abbrev pub IsCall : CodeUnit → Type 0
+IsCall (KernelCall n) = Unit {0}
+IsCall (SlotCall n) = Unit {0}
+IsCall _ = ⊥
 
-call_not_plain : (address : ℕ) (i : Instr) → standing_call address ≡ whole (Plain i) → ⊥
-call_not_plain address i e =
+entry_is_call : (o : Option Entry) (v : CodeUnit) → standing_entry o ≡ whole v → IsCall v
+entry_is_call (Some (Kernel n)) v e = let same : KernelCall n ≡ v = cc in subst IsCall same tt
+entry_is_call (Some (Slot n)) v e = let same : SlotCall n ≡ v = cc in subst IsCall same tt
+entry_is_call (Some _) v e = absurd (cc)
+entry_is_call None v e = absurd (cc)
+
+pub call_is_call : (address : ℕ) (v : CodeUnit) → standing_call address ≡ whole v → IsCall v
+call_is_call address v e =
     elim (cases_Bool (nat_lt address (2 ^ 16))) [
-      | inl near ↦ entry_not_plain (entry_at address) i (rw near at e)
-      | inr far ↦ let barred : Barred 7 ≡ whole (Plain i) = rw far at e in cc
+      | inl near ↦ entry_is_call (entry_at address) v (rw near at e)
+      | inr far ↦ let barred : Barred 7 ≡ whole v = rw far at e in absurd (cc)
     ]
 
-rcall_not_plain : (offset : ℤ) (i : Instr) → standing_rcall offset ≡ whole (Plain i) → ⊥
-rcall_not_plain (pos zero) i e = cc
-rcall_not_plain (pos (suc k)) i e = cc
-rcall_not_plain (negsuc k) i e = cc
-
-entry_not_store : (o : Option Entry) (i : Instr) → standing_entry o ≡ whole (Store i) → ⊥
-entry_not_store (Some (Kernel n)) i e = cc
-entry_not_store (Some (Slot n)) i e = cc
-entry_not_store (Some _) i e = cc
-entry_not_store None i e = cc
-
-call_not_store : (address : ℕ) (i : Instr) → standing_call address ≡ whole (Store i) → ⊥
-call_not_store address i e =
-    elim (cases_Bool (nat_lt address (2 ^ 16))) [
-      | inl near ↦ entry_not_store (entry_at address) i (rw near at e)
-      | inr far ↦ let barred : Barred 7 ≡ whole (Store i) = rw far at e in cc
-    ]
-
-rcall_not_store : (offset : ℤ) (i : Instr) → standing_rcall offset ≡ whole (Store i) → ⊥
-rcall_not_store (pos zero) i e = cc
-rcall_not_store (pos (suc k)) i e = cc
-rcall_not_store (negsuc k) i e = cc
-
-entry_not_skip : (o : Option Entry) (i : Instr) → standing_entry o ≡ whole (Skip i) → ⊥
-entry_not_skip (Some (Kernel n)) i e = cc
-entry_not_skip (Some (Slot n)) i e = cc
-entry_not_skip (Some _) i e = cc
-entry_not_skip None i e = cc
-
-call_not_skip : (address : ℕ) (i : Instr) → standing_call address ≡ whole (Skip i) → ⊥
-call_not_skip address i e =
-    elim (cases_Bool (nat_lt address (2 ^ 16))) [
-      | inl near ↦ entry_not_skip (entry_at address) i (rw near at e)
-      | inr far ↦ let barred : Barred 7 ≡ whole (Skip i) = rw far at e in cc
-    ]
-
-rcall_not_skip : (offset : ℤ) (i : Instr) → standing_rcall offset ≡ whole (Skip i) → ⊥
-rcall_not_skip (pos zero) i e = cc
-rcall_not_skip (pos (suc k)) i e = cc
-rcall_not_skip (negsuc k) i e = cc
+pub rcall_is_reserve : (offset : ℤ) (v : CodeUnit) → standing_rcall offset ≡ whole v → Reserve ≡ v
+rcall_is_reserve (pos zero) v e = cc
+rcall_is_reserve (pos (suc k)) v e = absurd (cc)
+rcall_is_reserve (negsuc k) v e = absurd (cc)
 
 -- a plain unit's instruction leads to the next one
 pub plain_is_straight : (i : Instr) → IsOfKind (Plain i) → IsStraight i
@@ -153,8 +123,8 @@ plain_is_straight (StYInc d) h = off_apart _ d _ _ h.0
 plain_is_straight (StYDec d) h = off_apart _ d _ _ h.0
 plain_is_straight (StZInc d) h = off_apart _ d _ _ h.0
 plain_is_straight (StZDec d) h = off_apart _ d _ _ h.0
-plain_is_straight (Call k) h = absurd (call_not_plain k _ h.0)
-plain_is_straight (Rcall k) h = absurd (rcall_not_plain k _ h.0)
+plain_is_straight (Call k) h = absurd (call_is_call k _ h.0)
+plain_is_straight (Rcall k) h = let reserve = rcall_is_reserve k _ h.0 in absurd (cc)
 plain_is_straight _ h = search rules
 
 -- so does a store
@@ -174,8 +144,8 @@ store_is_straight (StYInc d) h = off_apart _ d _ _ h.0
 store_is_straight (StYDec d) h = off_apart _ d _ _ h.0
 store_is_straight (StZInc d) h = off_apart _ d _ _ h.0
 store_is_straight (StZDec d) h = off_apart _ d _ _ h.0
-store_is_straight (Call k) h = absurd (call_not_store k _ h.0)
-store_is_straight (Rcall k) h = absurd (rcall_not_store k _ h.0)
+store_is_straight (Call k) h = absurd (call_is_call k _ h.0)
+store_is_straight (Rcall k) h = let reserve = rcall_is_reserve k _ h.0 in absurd (cc)
 store_is_straight _ h = search rules
 
 -- and that of a skip can pass over the next one
@@ -184,22 +154,22 @@ unfolding standing_of IsSkip
 skip_is_skip (Cpse d r) h = tt
 skip_is_skip (Sbrc d r) h = tt
 skip_is_skip (Sbrs d r) h = tt
-skip_is_skip (In d A) h = absurd (in_not_skip A _ _ h.0)
-skip_is_skip (Out r A) h = absurd (out_not_skip A _ _ h.0)
-skip_is_skip (LdXInc d) h = absurd (off_not_skip _ d _ _ h.0 (λ e. cc))
-skip_is_skip (LdXDec d) h = absurd (off_not_skip _ d _ _ h.0 (λ e. cc))
-skip_is_skip (LdYInc d) h = absurd (off_not_skip _ d _ _ h.0 (λ e. cc))
-skip_is_skip (LdYDec d) h = absurd (off_not_skip _ d _ _ h.0 (λ e. cc))
-skip_is_skip (LdZInc d) h = absurd (off_not_skip _ d _ _ h.0 (λ e. cc))
-skip_is_skip (LdZDec d) h = absurd (off_not_skip _ d _ _ h.0 (λ e. cc))
-skip_is_skip (StXInc r) h = absurd (off_not_skip _ r _ _ h.0 (λ e. cc))
-skip_is_skip (StXDec r) h = absurd (off_not_skip _ r _ _ h.0 (λ e. cc))
-skip_is_skip (StYInc r) h = absurd (off_not_skip _ r _ _ h.0 (λ e. cc))
-skip_is_skip (StYDec r) h = absurd (off_not_skip _ r _ _ h.0 (λ e. cc))
-skip_is_skip (StZInc r) h = absurd (off_not_skip _ r _ _ h.0 (λ e. cc))
-skip_is_skip (StZDec r) h = absurd (off_not_skip _ r _ _ h.0 (λ e. cc))
-skip_is_skip (Call k) h = absurd (call_not_skip k _ h.0)
-skip_is_skip (Rcall k) h = absurd (rcall_not_skip k _ h.0)
+skip_is_skip (In d A) h = absurd (in_not A _ _ h.0 (λ e. cc))
+skip_is_skip (Out r A) h = absurd (out_not A _ _ h.0 (λ e. cc))
+skip_is_skip (LdXInc d) h = absurd (off_not _ d _ _ h.0 (λ e. cc))
+skip_is_skip (LdXDec d) h = absurd (off_not _ d _ _ h.0 (λ e. cc))
+skip_is_skip (LdYInc d) h = absurd (off_not _ d _ _ h.0 (λ e. cc))
+skip_is_skip (LdYDec d) h = absurd (off_not _ d _ _ h.0 (λ e. cc))
+skip_is_skip (LdZInc d) h = absurd (off_not _ d _ _ h.0 (λ e. cc))
+skip_is_skip (LdZDec d) h = absurd (off_not _ d _ _ h.0 (λ e. cc))
+skip_is_skip (StXInc r) h = absurd (off_not _ r _ _ h.0 (λ e. cc))
+skip_is_skip (StXDec r) h = absurd (off_not _ r _ _ h.0 (λ e. cc))
+skip_is_skip (StYInc r) h = absurd (off_not _ r _ _ h.0 (λ e. cc))
+skip_is_skip (StYDec r) h = absurd (off_not _ r _ _ h.0 (λ e. cc))
+skip_is_skip (StZInc r) h = absurd (off_not _ r _ _ h.0 (λ e. cc))
+skip_is_skip (StZDec r) h = absurd (off_not _ r _ _ h.0 (λ e. cc))
+skip_is_skip (Call k) h = absurd (call_is_call k _ h.0)
+skip_is_skip (Rcall k) h = let reserve = rcall_is_reserve k _ h.0 in absurd (cc)
 skip_is_skip _ h = search rules
 
 pub units_are_of_their_sorts : UnitsAreOfTheirSorts
