@@ -12,8 +12,10 @@ use Rattle.domain_model.specs.declared.handler.Running.{Running}
 use Rattle.domain_model.specs.declared.line.TraceLine.{TraceLine}
 use Rattle.domain_model.specs.Prepared.{Module, Prep}
 use Rattle.domain_model.specs.State.{Loaded, Message, KernelState, RunnerState, State}
-use Rattle.domain_model.specs.Act.{Acted, is_loaded}
-use Rattle.domain_model.specs.Turn.{Given, given, free_domain, module_named, handler_ended, unload_module, deliver, dispatch, faulted, watchdog, seated, refused_file, init_to, final_to, Moved, refused, came, load_image, load_prepared, load_new, load_in, load_given, made_of, settled, counted, choice, made, May, Turn}
+use Rattle.domain_model.specs.Modules.{is_loaded, free_domain, module_named}
+use Rattle.domain_model.specs.Given.{Given, given}
+use Rattle.domain_model.specs.Act.{Acted}
+use Rattle.domain_model.specs.Turn.{handler_ended, unload_module, deliver, dispatch, faulted, watchdog, seated, refused_file, init_to, final_to, Moved, refused, came, load_image, load_prepared, load_new, load_in, load_given, made_of, settled, counted, choice, made, May, Turn}
 use Rattle.domain_model.specs.Laws.{CrossesBy, Crosses}
 use Rattle.domain_model.specs.Facts.{Facts}
 use Rattle.domain_model.proofs.ChoiceLaws.{choice_facts}

@@ -13,8 +13,10 @@ use Rattle.domain_model.specs.declared.event.Turned.TheVariants.{More}
 use Rattle.domain_model.specs.declared.line.TraceLine.{TraceLine}
 use Rattle.domain_model.specs.Prepared.{Module, Prep}
 use Rattle.domain_model.specs.State.{Loaded, Message, KernelState, RunnerState, State}
-use Rattle.domain_model.specs.Act.{Acted, act, is_loaded}
-use Rattle.domain_model.specs.Turn.{Given, given, free_domain, module_named, load_image, load_prepared, load_new, load_in, load_given, unload_module, deliver, dispatch, made, came, settled, faulted, watchdog, choice, May, Turn}
+use Rattle.domain_model.specs.Modules.{is_loaded, free_domain, module_named}
+use Rattle.domain_model.specs.Given.{Given, given}
+use Rattle.domain_model.specs.Act.{Acted, act}
+use Rattle.domain_model.specs.Turn.{load_image, load_prepared, load_new, load_in, load_given, unload_module, deliver, dispatch, made, came, settled, faulted, watchdog, choice, May, Turn}
 use Rattle.domain_model.specs.Good.{Good}
 use Rattle.domain_model.specs.Facts.{Facts}
 use Rattle.domain_model.specs.Remaining.{one_if, is_late, goes_on, remaining}

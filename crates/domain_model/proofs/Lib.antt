@@ -6,6 +6,7 @@ pub mod ModuleLaws
 pub mod BlockLaws
 pub mod UnitLaws
 pub mod InstructionLaws
+pub mod WriteLaws
 pub mod ActLaws
 pub mod MachineLaws
 pub mod CloseLaws

@@ -15,9 +15,10 @@ use Rattle.domain_model.specs.declared.handler.Running.{Running}
 use Rattle.domain_model.specs.declared.line.TraceLine.{TraceLine}
 use Rattle.domain_model.specs.declared.line.TraceLine.TheVariants as line
 use Rattle.domain_model.specs.State.{Loaded, Message, KernelState, RunnerState, State}
+use Rattle.domain_model.specs.Modules.{without_domain}
 use Rattle.domain_model.specs.Act.{Acted, act}
 use Rattle.domain_model.specs.Free.{UnitStep, with_memory, ends_handler, is_kernel_byte}
-use Rattle.domain_model.specs.Turn.{settled, watchdog, at_clock, without_domain, emptied, choice, made, May, Leaves, Turn}
+use Rattle.domain_model.specs.Turn.{settled, watchdog, at_clock, emptied, choice, made, May, Leaves, Turn}
 use Rattle.domain_model.specs.Good.{GoodMachine, GoodModule, Good}
 use Rattle.domain_model.specs.Laws.{MayChangeAtFault, KeepsTheRest, KeepsOtherUnits, UnloadsAlone}
 use Rattle.domain_model.specs.Facts.{Facts}

@@ -12,9 +12,11 @@ use Rattle.domain_model.specs.declared.line.TraceLine.{TraceLine}
 use Rattle.domain_model.specs.Bytes.{AreBytes}
 use Rattle.domain_model.specs.Prepared.{Module, Prep}
 use Rattle.domain_model.specs.State.{Loaded, Message, KernelState, RunnerState, State}
-use Rattle.domain_model.specs.Act.{Acted, act, is_loaded}
+use Rattle.domain_model.specs.Modules.{is_loaded, free_domain, module_named}
+use Rattle.domain_model.specs.Given.{Given, given}
+use Rattle.domain_model.specs.Act.{Acted, act}
 use Rattle.domain_model.specs.Free.{SameBut, SameKernel, SameState, UnitStep, with_memory, is_kernel_byte, unit_free}
-use Rattle.domain_model.specs.Turn.{Given, given, free_domain, module_named, came, unload_module, deliver, dispatch, watchdog, load_image, load_prepared, load_new, load_in, load_given, settled, choice, made, May, Leaves, Turn}
+use Rattle.domain_model.specs.Turn.{came, unload_module, deliver, dispatch, watchdog, load_image, load_prepared, load_new, load_in, load_given, settled, choice, made, May, Leaves, Turn}
 use Rattle.domain_model.specs.Good.{GoodMachine, Good}
 use Rattle.domain_model.specs.Facts.{Facts}
 use Rattle.domain_model.proofs.TimeLaws.{times_drop, times_first}

@@ -23,9 +23,11 @@ use Rattle.domain_model.specs.declared.line.TraceLine.{TraceLine}
 use Rattle.domain_model.specs.declared.line.TraceLine.TheVariants as line
 use Rattle.domain_model.specs.Prepared.{Module, Prep}
 use Rattle.domain_model.specs.State.{Loaded, Message, KernelState, RunnerState, State, seats}
-use Rattle.domain_model.specs.Act.{Acted, id_at, is_loaded}
+use Rattle.domain_model.specs.Modules.{id_at, is_loaded, in_use, module_named, without_domain, free_domain}
+use Rattle.domain_model.specs.Given.{Given, given}
+use Rattle.domain_model.specs.Act.{Acted}
 use Rattle.domain_model.specs.Free.{UnitStep, with_memory}
-use Rattle.domain_model.specs.Turn.{in_use, module_named, without_domain, Moved, unload_module, deliver, dispatch, Given, given, free_domain, emptied, came, load_image, load_prepared, refused_file, load_new, load_in, load_given, settled, faulted, watchdog, choice, made, May, Turn}
+use Rattle.domain_model.specs.Turn.{Moved, unload_module, deliver, dispatch, emptied, came, load_image, load_prepared, refused_file, load_new, load_in, load_given, settled, faulted, watchdog, choice, made, May, Turn}
 use Rattle.domain_model.specs.Good.{GoodMachine, GoodModule, Good}
 use Rattle.domain_model.specs.Laws.{Names, a_module, a_slot, a_message, the_message, a_block, a_lost_payload, the_running, UnloadsCleanly}
 use Rattle.domain_model.specs.Facts.{Facts}
