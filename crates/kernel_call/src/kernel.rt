@@ -106,7 +106,6 @@ impl Kernel {
         ensures row { result ≡ option_map row_of (module_named self.now.modules id) }
         ensures there { IfSome result (λ row. module_at self.now.modules row.domain ≡ module_named self.now.modules id) }
     {
-        self.modules.known();
         self.modules.named(id)
     }
 

@@ -36,6 +36,7 @@ impl Kernel {
     /// Takes a module in, with a cleared state block, or tells why not. Its handler does not start yet.
     ///
     /// An image has neither constants nor a seal yet.
+    #[tactic(auto, using(crate::proofs::Receivers::received_more))]
     pub fn admit(
         &mut self,
         face: &Face,
@@ -75,6 +76,7 @@ impl Kernel {
     }
 
     /// Takes the module in a domain out, with its blocks and every message from or to it.
+    #[tactic(auto, using(crate::proofs::Receivers::received_rest, crate::proofs::Seats::in_use_within))]
     pub fn purge(&mut self, d: u8)
         requires outside { self.old.running ≡ None }
         requires loaded { in_use self.old.modules d ≡ true }
@@ -117,6 +119,7 @@ impl Kernel {
     }
 
     /// Starts the handler of the receiver of the first message that waits, and answers its domain.
+    #[tactic(auto, using(crate::proofs::Seats::loaded_row))]
     pub fn next_message(&mut self, lines: &mut Lines) -> Option<u8>
         requires outside { self.old.running ≡ None }
         requires room { length lines.old < turn_lines }
@@ -126,7 +129,6 @@ impl Kernel {
         ensures receiver { IfSome result (λ d. IfSome (front self.old.queues)
             (λ m. module_at self.new.modules d ≡ module_named self.old.modules m.to)) }
     {
-        self.modules.known();
         let message = self.take_front()?;
         let Some(row) = self.modules.named(message.to) else {
             unreachable!()
@@ -158,9 +160,11 @@ impl Kernel {
     }
 
     /// The row of the module in a domain where there is one.
+    #[tactic(auto, using(crate::proofs::Seats::used_row))]
     fn row(&self, d: u8) -> ModuleRow
         requires { in_use self.now.modules d ≡ true }
         ensures row { Some result ≡ option_map row_of (module_at self.now.modules d) }
+        ensures within { result.domain < domain_count }
     {
         match self.modules.at(d) {
             Some(row) => row,
