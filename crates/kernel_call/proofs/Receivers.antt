@@ -1,6 +1,5 @@
 -- Receivers stay loaded.
-use Rattle.std.proofs.Common.{◌≡◌, ◌≢◌, ◌∙◌, sym, subst, ◌==◌, ◌||◌, ℕ, List, [], ◌∷◌, ◌++◌, not, true, false, filter}
-use Rattle.std.specs.List.{AllByRecursion}
+use Rattle.std.proofs.Common.{◌≡◌, ◌≢◌, ◌∙◌, sym, subst, ◌==◌, ℕ, List, [], ◌∷◌, ◌++◌, not, true}
 use Rattle.std.proofs.lemmas.Bool.{eqb-false, not-true, or_parts}
 use Rattle.mote_base.specs.Messages.{names, without_named}
 use Rattle.domain_model.specs.State.{Loaded, Message}

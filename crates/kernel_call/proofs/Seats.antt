@@ -1,8 +1,8 @@
 -- Rows of modules that are looked up.
-use Rattle.std.proofs.Common.{refl, ◌≡◌, ◌∙◌, ◌<◌, ◌==◌, [], ◌∷◌, inl, sym, ap, subst, ℕ, inr, List, true, Option, Some, None}
+use Rattle.std.proofs.Common.{refl, ◌≡◌, ◌∙◌, ◌<◌, ◌==◌, [], ◌∷◌, ◌++◌, false, inl, sym, ap, subst, ℕ, inr, List, true, Option, Some, None}
 use Rattle.std.specs.Option.{option_map}
 use Rattle.std.specs.List.{Contains}
-use Rattle.std.proofs.lemmas.Bool.{cases_Bool, cond-true, cond-false}
+use Rattle.std.proofs.lemmas.Bool.{cases_Bool, cond-true, cond-false, eq-eqb, or_left, or_parts, or_right}
 use Rattle.std.proofs.lemmas.Option.{none-some, same_Some}
 use Rattle.mote_layout.specs.Memory.{domain_count}
 use Rattle.domain_model.specs.State.{Loaded}
@@ -33,6 +33,14 @@ at_contained (n ∷ ns) domain m is =
           subst (Contains (n ∷ ns)) same (contained_first ns n)
       | inr other ↦
           contained_later n ns m (at_contained ns domain m (sym (cond-false (n.domain == domain) (Some n) (module_at ns domain) other) ∙ is))
+    ]
+
+pub at_used : (modules : List Loaded) (domain : ℕ) (m : Loaded) → module_at modules domain ≡ Some m → in_use modules domain ≡ true
+at_used [] domain m is = absurd (none-some m is)
+at_used (n ∷ ns) domain m is =
+    elim (cases_Bool (n.domain == domain)) [
+      | inl here ↦ or_left (n.domain == domain) (in_use ns domain) here
+      | inr other ↦ or_right (n.domain == domain) (in_use ns domain) (at_used ns domain m (sym (cond-false (n.domain == domain) (Some n) (module_at ns domain) other) ∙ is))
     ]
 
 -- a module that is found by its id is the one in its domain
@@ -82,3 +90,23 @@ pub loaded_row : (modules : List Loaded) (id : ℕ) → is_loaded modules id ≡
 loaded_row modules id loaded none =
     let n = loaded_named modules id loaded in
     none-some (row_of n.0) (none ∙ ap (λ o. option_map row_of o) n.1)
+
+-- a domain with a row is in use
+pub row_used : (modules : List Loaded) (domain : ℕ) (row : ModuleRow) → Some row ≡ option_map row_of (module_at modules domain) → in_use modules domain ≡ true
+row_used modules domain row is = by_case (module_at modules domain) refl
+  where
+    by_case : (o : Option Loaded) → module_at modules domain ≡ o → in_use modules domain ≡ true
+    by_case None e = absurd (none-some row (sym (is ∙ ap (λ o. option_map row_of o) e)))
+    by_case (Some m) e = at_used modules domain m e
+
+-- and that of a module that is found by its id is in use
+pub named_used : (modules : List Loaded) (id : ℕ) (row : ModuleRow) → AreSeated modules → Some row ≡ option_map row_of (module_named modules id) → in_use modules row.domain ≡ true
+named_used modules id row seated is =
+    row_used modules row.domain row (is ∙ sym (ap (λ o. option_map row_of o) (named_row modules id row seated is).there))
+
+-- a module that comes into a free domain is the one there
+pub pushed_there : (modules : List Loaded) (m : Loaded) → in_use modules m.domain ≡ false → module_at (modules ++ m ∷ []) m.domain ≡ Some m
+pushed_there [] m free = cond-true (m.domain == m.domain) (Some m) None (eq-eqb m.domain m.domain refl)
+pushed_there (n ∷ ns) m free =
+    let apart = or_parts (n.domain == m.domain) (in_use ns m.domain) free in
+    cond-false (n.domain == m.domain) (Some n) (module_at (ns ++ m ∷ []) m.domain) apart.0 ∙ pushed_there ns m apart.1

@@ -1,5 +1,5 @@
 //! What turns do to the kernel.
-ghost use Rattle.std.specs.Prelude.{◌≡◌, ◌↔◌, ◌<◌, ◌≤◌, ◌++◌, ◌∷◌, [], IfSome, IfNone, IsSome, Some, None, length, option_map, true, false};
+ghost use Rattle.std.specs.Prelude.{◌≡◌, ◌↔◌, ◌<◌, ◌≤◌, ◌++◌, ◌∷◌, [], ℕ, IfSome, IfNone, IsSome, IsSomeAnd, Some, None, length, option_map, true, false};
 ghost use Rattle.mote_base.specs.Messages.{front, without_front, unnamed};
 ghost use Rattle.mote_layout.specs.Limits.{provided_limit, turn_lines};
 ghost use Rattle.mote_layout.specs.Memory.{domain_count};
@@ -8,7 +8,7 @@ ghost use Rattle.domain_model.specs.State.{RunnerState};
 ghost use Rattle.domain_model.specs.Modules.{id_at, in_use, is_loaded, module_at, module_named};
 ghost use Rattle.domain_model.specs.Turn.{at_clock, begun, dispatch, final_to, handler_ended, init_to, kernel_message, purged, state_block, with_none_ending};
 ghost use Rattle.domain_model.specs.Given.{with_given};
-ghost use Rattle.kernel_call.specs.Admission.{admission};
+ghost use Rattle.kernel_call.specs.Admission.{admission, newcomer};
 ghost use Rattle.kernel_call.specs.Rows.{row_of};
 ghost use Rattle.kernel_call.specs.Sound.{last_moment};
 ghost use Rattle.kernel_call.specs.Values.{given_as};
@@ -36,7 +36,7 @@ impl Kernel {
     /// Takes a module in, with a cleared state block, or tells why not. Its handler does not start yet.
     ///
     /// An image has neither constants nor a seal yet.
-    #[tactic(auto, using(crate::proofs::Receivers::received_more))]
+    #[tactic(auto, using(crate::proofs::Receivers::received_more, crate::proofs::Seats::pushed_there, domain_model::proofs::ModuleLaws::in_use_new))]
     pub fn admit(
         &mut self,
         face: &Face,
@@ -51,8 +51,12 @@ impl Kernel {
         requires entries { length entries.now ≡ length face.now.provided.items }
         requires constants { constants.now ≡ [] }
         requires sealed { sealed ≡ false }
-        ensures kernel { self.new ≡ (admission self.old (record { face = face.now; state_size = state_size; handler = handler; entries = entries.now })).kernel }
-        ensures answer { result ≡ (admission self.old (record { face = face.now; state_size = state_size; handler = handler; entries = entries.now })).answer }
+        ensures kernel { self.new ≡ (admission self.old
+            (newcomer face.now state_size handler entries.now)).kernel }
+        ensures answer { result ≡ (admission self.old (newcomer face.now state_size handler entries.now)).answer }
+        ensures used { (d : ℕ) → result ≡ Admitted.Placed d → in_use self.new.modules d ≡ true }
+        ensures there { (d : ℕ) → result ≡ Admitted.Placed d → IsSomeAnd (module_at self.new.modules d)
+            (λ m. (m.face ≡ face.now) × (m.domain ≡ d) × (m.handler ≡ handler) × (m.entries ≡ entries.now)) }
     {
         prove!(constants.is_empty());
         prove!(!sealed);
