@@ -16,6 +16,10 @@ pub record Newcomer : Type 0 where
   pub handler : ℕ
   pub entries : List ℕ
 
+abbrev pub newcomer : Face → ℕ → ℕ → List ℕ → Newcomer
+newcomer face state_size handler entries =
+    record { face = face; state_size = state_size; handler = handler; entries = entries }
+
 -- The kernel after an admission, and the answer.
 pub record Admission : Type 0 where
   pub kernel : KernelState

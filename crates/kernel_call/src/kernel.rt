@@ -1,13 +1,14 @@
 //! The kernel's state, and what it tells of it.
-ghost use Rattle.std.specs.Prelude.{◌≡◌, ◌<◌, ℕ, IfOk, IfSome, IsSome, Some, is_some, option_map};
+ghost use Rattle.std.specs.Prelude.{◌≡◌, ◌<◌, ◌≤◌, IfOk, IfSome, IsSome, Some, true, is_some, option_map};
 ghost use Rattle.std.specs.Borrow.{sem};
 ghost use Rattle.mote_base.specs.Messages.{front};
 ghost use Rattle.mote_layout.specs.Memory.{domain_count};
 ghost use Rattle.domain_model.specs.State.{no_kernel, without_counter};
 ghost use Rattle.domain_model.specs.Act.{may_store};
-ghost use Rattle.domain_model.specs.Modules.{module_at, module_named};
+ghost use Rattle.domain_model.specs.Modules.{in_use, module_at, module_named};
 ghost use Rattle.kernel_call.specs.Lending.{LendsCpu};
 ghost use Rattle.kernel_call.specs.Rows.{row_of};
+ghost use Rattle.kernel_call.specs.Sound.{last_moment};
 
 use crate::loaded::ModuleRow;
 use crate::modules::Modules;
@@ -72,7 +73,8 @@ impl Kernel {
 
     /// How many units of time have passed.
     pub fn clock(&self) -> u64
-        ensures { result ≡ self.now.clock }
+        ensures clock { result ≡ self.now.clock }
+        ensures last { result ≤ last_moment }
     {
         self.clock
     }
@@ -95,16 +97,20 @@ impl Kernel {
     }
 
     /// The module in a domain.
+    #[tactic(auto, using(crate::proofs::Seats::row_used))]
     pub fn module_at(&self, d: u8) -> Option<ModuleRow>
-        ensures { result ≡ option_map row_of (module_at self.now.modules d) }
+        ensures row { result ≡ option_map row_of (module_at self.now.modules d) }
+        ensures used { IfSome result (λ _. in_use self.now.modules d ≡ true) }
     {
         self.modules.at(d)
     }
 
     /// The module with an id. It is the one in its domain.
+    #[tactic(auto, using(crate::proofs::Seats::named_used))]
     pub fn module_named(&self, id: u8) -> Option<ModuleRow>
         ensures row { result ≡ option_map row_of (module_named self.now.modules id) }
         ensures there { IfSome result (λ row. module_at self.now.modules row.domain ≡ module_named self.now.modules id) }
+        ensures used { IfSome result (λ row. in_use self.now.modules row.domain ≡ true) }
     {
         self.modules.known();
         self.modules.named(id)

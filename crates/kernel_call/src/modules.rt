@@ -48,15 +48,20 @@ impl Modules {
     }
 
     /// The row of the module in a domain.
+    #[tactic(auto, using(crate::proofs::Seats::at_row))]
     pub fn at(&self, domain: u8) -> Option<ModuleRow>
-        ensures { result ≡ option_map row_of (module_at self.now domain) }
+        ensures row { result ≡ option_map row_of (module_at self.now domain) }
+        ensures within { IfSome result (λ row. row.domain < domain_count) }
     {
         row_at(self.list.as_slice(), domain)
     }
 
-    /// The row of the module with an id.
+    /// The row of the module with an id, which is the one in its domain.
+    #[tactic(auto, using(crate::proofs::Seats::named_row, crate::proofs::Seats::named_within))]
     pub fn named(&self, id: u8) -> Option<ModuleRow>
-        ensures { result ≡ option_map row_of (module_named self.now id) }
+        ensures row { result ≡ option_map row_of (module_named self.now id) }
+        ensures within { IfSome result (λ row. row.domain < domain_count) }
+        ensures there { IfSome result (λ row. module_at self.now row.domain ≡ module_named self.now id) }
     {
         row_named(self.list.as_slice(), id)
     }
@@ -88,6 +93,7 @@ impl Modules {
     }
 
     /// Takes a module in.
+    #[tactic(auto, using(crate::proofs::Rooms::room_for, crate::proofs::Rooms::seated_push))]
     pub fn add(&mut self, loaded: Loaded)
         requires domain { loaded.domain < domain_count }
         requires free { in_use self.old loaded.domain ≡ false }
@@ -98,6 +104,7 @@ impl Modules {
     }
 
     /// Takes the module in a domain out, if there is one.
+    #[tactic(auto, using(crate::proofs::Rooms::seated_without))]
     pub fn remove(&mut self, domain: u8)
         ensures { self.new ≡ without_domain domain self.old }
     {

@@ -1,5 +1,5 @@
 //! What turns do to the kernel.
-ghost use Rattle.std.specs.Prelude.{◌≡◌, ◌↔◌, ◌<◌, ◌≤◌, ◌++◌, ◌∷◌, [], IfSome, IfNone, IsSome, Some, None, length, option_map, true, false};
+ghost use Rattle.std.specs.Prelude.{◌≡◌, ◌↔◌, ◌<◌, ◌≤◌, ◌++◌, ◌∷◌, [], ℕ, IfSome, IfNone, IsSome, IsSomeAnd, Some, None, length, option_map, true, false};
 ghost use Rattle.mote_base.specs.Messages.{front, without_front, unnamed};
 ghost use Rattle.mote_layout.specs.Limits.{provided_limit, turn_lines};
 ghost use Rattle.mote_layout.specs.Memory.{domain_count};
@@ -8,7 +8,7 @@ ghost use Rattle.domain_model.specs.State.{RunnerState};
 ghost use Rattle.domain_model.specs.Modules.{id_at, in_use, is_loaded, module_at, module_named};
 ghost use Rattle.domain_model.specs.Turn.{at_clock, begun, dispatch, final_to, handler_ended, init_to, kernel_message, purged, state_block, with_none_ending};
 ghost use Rattle.domain_model.specs.Given.{with_given};
-ghost use Rattle.kernel_call.specs.Admission.{admission};
+ghost use Rattle.kernel_call.specs.Admission.{admission, newcomer};
 ghost use Rattle.kernel_call.specs.Rows.{row_of};
 ghost use Rattle.kernel_call.specs.Sound.{last_moment};
 ghost use Rattle.kernel_call.specs.Values.{given_as};
@@ -36,6 +36,7 @@ impl Kernel {
     /// Takes a module in, with a cleared state block, or tells why not. Its handler does not start yet.
     ///
     /// An image has neither constants nor a seal yet.
+    #[tactic(auto, using(crate::proofs::Receivers::received_more, crate::proofs::Seats::pushed_there, domain_model::proofs::ModuleLaws::in_use_new))]
     pub fn admit(
         &mut self,
         face: &Face,
@@ -50,8 +51,12 @@ impl Kernel {
         requires entries { length entries.now ≡ length face.now.provided.items }
         requires constants { constants.now ≡ [] }
         requires sealed { sealed ≡ false }
-        ensures kernel { self.new ≡ (admission self.old (record { face = face.now; state_size = state_size; handler = handler; entries = entries.now })).kernel }
-        ensures answer { result ≡ (admission self.old (record { face = face.now; state_size = state_size; handler = handler; entries = entries.now })).answer }
+        ensures kernel { self.new ≡ (admission self.old
+            (newcomer face.now state_size handler entries.now)).kernel }
+        ensures answer { result ≡ (admission self.old (newcomer face.now state_size handler entries.now)).answer }
+        ensures used { (d : ℕ) → result ≡ Admitted.Placed d → in_use self.new.modules d ≡ true }
+        ensures there { (d : ℕ) → result ≡ Admitted.Placed d → IsSomeAnd (module_at self.new.modules d)
+            (λ m. (m.face ≡ face.now) × (m.domain ≡ d) × (m.handler ≡ handler) × (m.entries ≡ entries.now)) }
     {
         prove!(constants.is_empty());
         prove!(!sealed);
@@ -75,6 +80,7 @@ impl Kernel {
     }
 
     /// Takes the module in a domain out, with its blocks and every message from or to it.
+    #[tactic(auto, using(crate::proofs::Receivers::received_rest, crate::proofs::Seats::in_use_within))]
     pub fn purge(&mut self, d: u8)
         requires outside { self.old.running ≡ None }
         requires loaded { in_use self.old.modules d ≡ true }
@@ -117,6 +123,7 @@ impl Kernel {
     }
 
     /// Starts the handler of the receiver of the first message that waits, and answers its domain.
+    #[tactic(auto, using(crate::proofs::Seats::loaded_row))]
     pub fn next_message(&mut self, lines: &mut Lines) -> Option<u8>
         requires outside { self.old.running ≡ None }
         requires room { length lines.old < turn_lines }
@@ -126,7 +133,6 @@ impl Kernel {
         ensures receiver { IfSome result (λ d. IfSome (front self.old.queues)
             (λ m. module_at self.new.modules d ≡ module_named self.old.modules m.to)) }
     {
-        self.modules.known();
         let message = self.take_front()?;
         let Some(row) = self.modules.named(message.to) else {
             unreachable!()
@@ -158,9 +164,11 @@ impl Kernel {
     }
 
     /// The row of the module in a domain where there is one.
+    #[tactic(auto, using(crate::proofs::Seats::used_row))]
     fn row(&self, d: u8) -> ModuleRow
         requires { in_use self.now.modules d ≡ true }
         ensures row { Some result ≡ option_map row_of (module_at self.now.modules d) }
+        ensures within { result.domain < domain_count }
     {
         match self.modules.at(d) {
             Some(row) => row,

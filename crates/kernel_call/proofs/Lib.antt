@@ -1,0 +1,4 @@
+pub mod Least
+pub mod Receivers
+pub mod Rooms
+pub mod Seats
