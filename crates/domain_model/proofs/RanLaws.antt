@@ -1,25 +1,35 @@
 -- The machine itself writes no line of an instruction that a runner runs, and nothing but lines hangs on such lines.
-use Rattle.std.proofs.Common.{Ok, Err, ◌≡◌, ℕ, ◌==◌, List, [], ◌∷◌, ◌++◌, Bool, true, false, not, refl, sym, ap, subst, ◌∙◌, Option, Some, None, slice_get}
+use Rattle.std.proofs.Common.{Ok, Err, ◌≡◌, ℕ, ◌==◌, nat_lt, nat_le, List, [], ◌∷◌, ◌++◌, Bool, true, false, not, refl, sym, ap, subst, ◌∙◌, Option, Some, None, slice_get}
 use Rattle.std.proofs.lemmas.List.Elements.{filter-append}
 use Rattle.mote_base.specs.Messages.{front}
 use Rattle.avr_isa.specs.declared.instruction.Instr.{Instr}
+use Rattle.avr_isa.specs.declared.instruction.Instr.TheVariants as instr
+use Rattle.mote_layout.specs.Memory.{floor}
+use Rattle.mote_layout.specs.Requests.{holds}
 use Rattle.unit_code.specs.declared.unit.Unit.{Unit}
-use Rattle.unit_code.specs.declared.unit.Unit.TheVariants.{Plain, Store, KernelCall, Return}
+use Rattle.unit_code.specs.declared.unit.Unit.TheVariants.{Plain, Store, Push, Pop, SpGroup, Reserve, Skip, Branch, Jump, KernelCall, Return}
 use Rattle.domain_model.specs.declared.event.LoaderOrder.{LoaderOrder}
 use Rattle.domain_model.specs.declared.event.LoaderOrder.TheVariants as what
 use Rattle.domain_model.specs.declared.event.Choice.{Choice}
 use Rattle.domain_model.specs.declared.event.Choice.TheVariants.{Stays, Comes, Dispatches, Jumps, Idles, Budgets, Watches, Acts}
 use Rattle.domain_model.specs.declared.fault.FaultNote.{FaultNote}
+use Rattle.domain_model.specs.declared.fault.Rule.{Rule}
+use Rattle.domain_model.specs.declared.fault.Rule.TheVariants as rule
+use Rattle.domain_model.specs.declared.fault.Served.{Served}
+use Rattle.domain_model.specs.declared.fault.Served.TheVariants as served
 use Rattle.domain_model.specs.declared.fault.UnitEnd.{UnitEnd}
 use Rattle.domain_model.specs.declared.fault.UnitEnd.TheVariants.{On, Over, Fault}
 use Rattle.domain_model.specs.declared.handler.Running.{Running}
 use Rattle.domain_model.specs.declared.line.TraceLine.{TraceLine}
 use Rattle.domain_model.specs.declared.line.TraceLine.TheVariants as line
 use Rattle.domain_model.specs.Prepared.{Module, Prep}
-use Rattle.domain_model.specs.State.{Message, Loaded, KernelState, RunnerState, State}
-use Rattle.domain_model.specs.Units.{Service, PostShort, Say, MyId, service_of}
-use Rattle.domain_model.specs.Act.{Acted, act, act_running, act_at, act_store, act_return, act_call, may_store, store_address, next_unit, id_at, is_loaded}
-use Rattle.domain_model.specs.Turn.{Moved, Given, given, free_domain, module_named, came, load_image, load_prepared, load_new, load_in, load_given, unload_module, deliver, dispatch, close, close_module, faulted, settled, purged, handler_ended, emptied, made, watchdog}
+use Rattle.domain_model.specs.State.{Message, Loaded, KernelState, RunnerState, State, pair}
+use Rattle.domain_model.specs.Units.{Service, Malloc, Free, ChangeOwn, PostShort, Say, Clock, MyId, service_of}
+use Rattle.domain_model.specs.Modules.{free_domain, id_at, is_loaded, module_named}
+use Rattle.domain_model.specs.Given.{Given}
+use Rattle.domain_model.specs.Calls.{Serving, change_held, free_held, serve}
+use Rattle.domain_model.specs.Act.{Acted, act, act_running, act_at, act_effect, act_under, act_group, act_reserve, act_skip, act_branch, act_return, act_served, act_call, passes, taken, group_sp, has_room, may_store, store_address, next_unit}
+use Rattle.domain_model.specs.Turn.{Moved, came, load_image, load_prepared, load_new, load_in, load_given, unload_module, deliver, dispatch, close, close_module, faulted, settled, purged, handler_ended, emptied, made, state_block, watchdog}
 use Rattle.domain_model.specs.Runners.{is_ran, without_ran, without_ran_lines}
 
 abbrev IsQuiet : List TraceLine → Type 0
@@ -27,25 +37,71 @@ IsQuiet lines = without_ran lines ≡ lines
 
 -- A unit.
 
-quiet_store : (b : Bool) (i : Instr) (k : KernelState) (r : RunnerState) → IsQuiet (act_store b i k r).lines
-quiet_store true i k r = refl
-quiet_store false i k r = refl
+quiet_effect : (b : Bool) (why : Rule) (address : ℕ) (i : Instr) (k : KernelState) (r : RunnerState) → IsQuiet (act_effect b why address i k r).lines
+quiet_effect true why address i k r = refl
+quiet_effect false why address i k r = refl
+
+quiet_under : (b with_sreg : Bool) (k : KernelState) (r : RunnerState) → IsQuiet (act_under b with_sreg k r).lines
+quiet_under true with_sreg k r = refl
+quiet_under false with_sreg k r = refl
+
+quiet_group : (b with_sreg : Bool) (run : Running) (k : KernelState) (r : RunnerState) → IsQuiet (act_group b with_sreg run k r).lines
+quiet_group true with_sreg run k r = quiet_under (nat_le (group_sp k.processor) run.base) with_sreg k r
+quiet_group false with_sreg run k r = refl
+
+quiet_reserve : (b : Bool) (k : KernelState) (r : RunnerState) → IsQuiet (act_reserve b k r).lines
+quiet_reserve true k r = refl
+quiet_reserve false k r = refl
+
+quiet_skip : (b : Bool) (k : KernelState) (r : RunnerState) → IsQuiet (act_skip b k r).lines
+quiet_skip true k r = refl
+quiet_skip false k r = refl
+
+quiet_branch : (b : Bool) (target : ℕ) (k : KernelState) (r : RunnerState) → IsQuiet (act_branch b target k r).lines
+quiet_branch true target k r = refl
+quiet_branch false target k r = refl
 
 quiet_return : (b : Bool) (k : KernelState) (r : RunnerState) → IsQuiet (act_return b k r).lines
 quiet_return true k r = refl
 quiet_return false k r = refl
 
-quiet_call : (o : Option Service) (run : Running) (k : KernelState) (r : RunnerState) → IsQuiet (act_call o run k r).lines
-quiet_call (Some PostShort) run k r = refl
-quiet_call (Some Say) run k r = refl
-quiet_call (Some MyId) run k r = refl
-quiet_call None run k r = refl
+quiet_free : (b : Bool) (address : ℕ) (k : KernelState) → IsQuiet (free_held b address k).lines
+quiet_free true address k = refl
+quiet_free false address k = refl
+
+quiet_change : (b : Bool) (address : ℕ) (k : KernelState) → IsQuiet (change_held b address k).lines
+quiet_change true address k = refl
+quiet_change false address k = refl
+
+quiet_serve : (o : Option Service) (run : Running) (k : KernelState) → IsQuiet (serve o run k).lines
+quiet_serve (Some Malloc) run k = refl
+quiet_serve (Some Free) run k = quiet_free (holds k.blocks run.domain (pair k.processor 24)) (pair k.processor 24) k
+quiet_serve (Some ChangeOwn) run k = quiet_change (holds k.blocks run.domain (pair k.processor 24)) (pair k.processor 24) k
+quiet_serve (Some PostShort) run k = refl
+quiet_serve (Some Say) run k = refl
+quiet_serve (Some Clock) run k = refl
+quiet_serve (Some MyId) run k = refl
+quiet_serve None run k = refl
+
+served_lines : (o : Served) (s : Serving) (r : RunnerState) → (act_served o s r).lines ≡ s.lines
+served_lines served.Back s r = refl
+served_lines (served.Fault note) s r = refl
+
+quiet_call : (s : Serving) (r : RunnerState) → IsQuiet s.lines → IsQuiet (act_call s r).lines
+quiet_call s r quiet = rw (served_lines s.served s r) quiet
 
 quiet_at : (o : Option Unit) (run : Running) (k : KernelState) (r : RunnerState) → IsQuiet (act_at o run k r).lines
 quiet_at None run k r = refl
 quiet_at (Some (Plain i)) run k r = refl
-quiet_at (Some (Store i)) run k r = quiet_store (may_store k run (store_address i k.processor)) i k r
-quiet_at (Some (KernelCall n)) run k r = quiet_call (service_of n) run k r
+quiet_at (Some (Store i)) run k r = quiet_effect (may_store k run (store_address i k.processor)) rule.Store (store_address i k.processor) i k r
+quiet_at (Some (Push s)) run k r = quiet_effect (nat_lt floor k.processor.sp) rule.StackOver k.processor.sp (instr.Push s) k r
+quiet_at (Some (Pop d)) run k r = quiet_effect (nat_lt k.processor.sp run.base) rule.StackUnder k.processor.sp (instr.Pop d) k r
+quiet_at (Some (SpGroup with_sreg)) run k r = quiet_group (nat_le floor (group_sp k.processor)) with_sreg run k r
+quiet_at (Some Reserve) run k r = quiet_reserve (has_room k.processor) k r
+quiet_at (Some (Skip i)) run k r = quiet_skip (passes i k.processor) k r
+quiet_at (Some (Branch set bit target)) run k r = quiet_branch (taken set bit k.processor) target k r
+quiet_at (Some (Jump target)) run k r = refl
+quiet_at (Some (KernelCall n)) run k r = quiet_call (serve (service_of n) run k) r (quiet_serve (service_of n) run k)
 quiet_at (Some Return) run k r = quiet_return (k.processor.sp == run.base) k r
 quiet_at (Some _) run k r = refl
 
@@ -64,7 +120,7 @@ quiet_given (Some g) m domain image k r = refl
 
 quiet_in : (o : Option ℕ) (m : Module) (image : ℕ) (k : KernelState) (r : RunnerState) → IsQuiet (load_in o m image k r).lines
 quiet_in None m image k r = refl
-quiet_in (Some domain) m image k r = quiet_given (given k domain m.state_size) m domain image k r
+quiet_in (Some domain) m image k r = quiet_given (state_block k domain m.state_size) m domain image k r
 
 quiet_new : (b : Bool) (m : Module) (image : ℕ) (k : KernelState) (r : RunnerState) → IsQuiet (load_new b m image k r).lines
 quiet_new true m image k r = refl

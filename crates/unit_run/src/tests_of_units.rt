@@ -31,7 +31,7 @@ pub fn store_address(cpu: &Cpu, store: &Instr) -> u16
 }
 
 /// Whether a skip passes over the next unit.
-#[tactic(auto, using(domain_model::proofs::InstructionLaws::skips_pass), unfolding(avr_machine::specs::Conditions::IsSkip, avr_isa::specs::Operands::IsEncodable))]
+#[tactic(auto, unfolding(avr_machine::specs::Conditions::IsSkip, avr_isa::specs::Operands::IsEncodable))]
 pub fn passes(cpu: &Cpu, skip: &Instr) -> bool
     requires skip { IsSkip skip.now }
     requires operands { IsEncodable skip.now }
