@@ -5,12 +5,10 @@ ghost use Rattle.unit_code.specs.Listing.{FitsTogether};
 ghost use Rattle.unit_code.specs.Proper.{IsProper};
 ghost use Rattle.module_image.specs.Contents.{FaceRules};
 ghost use Rattle.domain_model.specs.Prepared.{is_unbuilt, marks_of, module_of, prepared, prepared_contents, prepared_units};
-ghost use Rattle.domain_model.specs.Units.{are_built, is_built};
+ghost use Rattle.domain_model.specs.Units.{are_built, is_built, service_of};
 ghost use Rattle.domain_model.specs.Good.{IsGoodImage};
 
-use crate::loaded::Loaded;
 use arrayvec::ArrayVec;
-use avr_isa::Instr;
 use domain_model::Refusal;
 use module_image::{Face, ImageView, SECOND_VERSION, parse};
 use mote_base::NoMemory;
@@ -20,9 +18,17 @@ use std::marker::Model;
 use unit_code::{BankCode, CodeError, Unit, UnitList, units};
 
 /// The kernel calls that are built, by number.
+const MALLOC: u8 = 0;
+
+const FREE: u8 = 1;
+
+const CHANGE_OWN: u8 = 2;
+
 const POST_SHORT: u8 = 3;
 
 const SAY: u8 = 8;
+
+const CLOCK: u8 = 9;
 
 const MY_ID: u8 = 11;
 
@@ -45,10 +51,10 @@ impl Model for Loadable {
 }
 
 impl Loadable {
-    pub fn id(&self) -> u8
-        ensures { result ≡ self.now.face.id }
+    pub fn face(&self) -> &Face
+        ensures { result.now ≡ self.now.face }
     {
-        self.face.id
+        &self.face
     }
 
     pub fn state_size(&self) -> u16
@@ -70,23 +76,11 @@ impl Loadable {
         &self.code
     }
 
-    /// The module in a domain, with its state block at an address.
-    pub fn in_domain(&self, domain: u8, state: u16) -> Loaded
-        ensures { result ≡ record {
-          face = self.now.face;
-          domain = domain;
-          state = state;
-          handler = self.now.handler;
-          entries = self.now.entries;
-        } }
+    /// The units at which the functions that it provides begin.
+    pub fn entries(&self) -> &[u16]
+        ensures { result.now ≡ self.now.entries }
     {
-        Loaded {
-            face: self.face.copied(),
-            domain,
-            state,
-            handler: self.handler,
-            entries: numbers(self.entries.as_slice()),
-        }
+        self.entries.as_slice()
     }
 }
 
@@ -225,22 +219,18 @@ fn is_built(unit: &Unit) -> bool
     ensures { result ≡ is_built unit.now }
 {
     match unit {
-        Unit::Plain(instruction) => is_built_plain(instruction),
-        Unit::Store(instruction) => is_built_store(instruction),
-        Unit::KernelCall(number) => matches!(*number, POST_SHORT | SAY | MY_ID),
-        Unit::Return => true,
-        _ => false,
+        Unit::Load(_) | Unit::LocalCall(_) | Unit::SlotCall(_) | Unit::SlotIndirect => false,
+        Unit::KernelCall(number) => is_served(*number),
+        _ => true,
     }
 }
 
-fn is_built_plain(instruction: &Instr) -> bool
-    ensures { result ≡ is_built (Unit.Plain instruction.now) }
+// Whether the kernel serves the call with that number.
+fn is_served(number: u8) -> bool
+    ensures { result ≡ is_some (service_of number) }
 {
-    matches!(instruction, Instr::Ldi(_, _) | Instr::Mov(_, _))
-}
-
-fn is_built_store(instruction: &Instr) -> bool
-    ensures { result ≡ is_built (Unit.Store instruction.now) }
-{
-    matches!(instruction, Instr::StX(_))
+    matches!(
+        number,
+        MALLOC | FREE | CHANGE_OWN | POST_SHORT | SAY | CLOCK | MY_ID
+    )
 }

@@ -14,13 +14,12 @@ ghost use Rattle.domain_model.specs.Turn.{May, choice, choose_inside, choose_out
 ghost use Rattle.mote_core.specs.Value.{acted, made_by, state_of};
 
 use crate::agenda::Agenda;
-use crate::kernel_call::Kernel;
 use crate::limits::Limits;
 use crate::mod_loader::Ready;
-use crate::runner::Runner;
 use crate::turns::{come, dispatch, run_one, settle, stop};
 use domain_model::{Choice, FaultNote, Lines, LoaderEvent, Rule, Running, TraceLine, Turned};
 use event_script::Script;
+use kernel_call::{Kernel, Runner};
 use mote_base::NoMemory;
 use std::alloc::Global;
 use std::marker::Model;
@@ -137,7 +136,7 @@ impl<R: Runner> Mote<R> {
             Turned::EndIdle => return Choice::Stays,
             Turned::EndBudget => return Choice::Stays,
         }
-        match self.kernel.running() {
+        match self.kernel.handler() {
             Some(run) => self.choose_inside(run),
             None => self.choose_outside(),
         }
@@ -272,7 +271,7 @@ impl<R: Runner> Mote<R> {
     {
         let note = FaultNote {
             rule: Rule::Watchdog,
-            address: self.kernel.cpu().sp(),
+            address: self.kernel.cpu().sp,
         };
         stop(note, run, &mut self.kernel, &mut self.runner, lines);
     }
