@@ -7,6 +7,7 @@ pub mod BlockLaws
 pub mod UnitLaws
 pub mod InstructionLaws
 pub mod WriteLaws
+pub mod StackLaws
 pub mod ActLaws
 pub mod MachineLaws
 pub mod CloseLaws
