@@ -309,7 +309,7 @@ pub plain_keeps : (i : Instr) (p : Processor) → IsOfKind (Plain i) → HasByte
 plain_keeps i p kind h small = changes_kept (λ a. ⊥) (writes i 0 (at_counter p 0)) (at_counter p 0) (plain_own i p kind h small) h
 
 -- a store changes the byte at its address
-abbrev AtAddress : Instr → Processor → ℕ → Type 0
+abbrev pub AtAddress : Instr → Processor → ℕ → Type 0
 AtAddress i p a = a ≡ store_address i p
 
 store_own : (i : Instr) (p : Processor) → IsOfKind (Store i) → HasBytes p → ram_start ≤ store_address i p → AllByRecursion (IsOwnWrite (AtAddress i p)) (writes i 0 (at_counter p 0))

@@ -1,3 +1,4 @@
+use Rattle.domain_model.proofs.MachineLaws.{act_good}
 use Rattle.domain_model.proofs.StackLaws.{moves_by}
 use Rattle.domain_model.proofs.ActLaws.{act_outcome}
 use Rattle.domain_model.proofs.WriteLaws.{changes_kept}
