@@ -1,7 +1,3 @@
-use Rattle.domain_model.proofs.MachineLaws.{act_good}
-use Rattle.domain_model.proofs.StackLaws.{moves_by}
-use Rattle.domain_model.proofs.ActLaws.{act_outcome}
-use Rattle.domain_model.proofs.WriteLaws.{changes_kept}
 use Rattle.domain_model.proofs.InstructionLaws.{counter_comes_back, acts_at_every_counter, units_are_of_their_sorts, skips_pass_as_instructions}
 use Rattle.domain_model.proofs.laws.units_act_as_instructions.Goals as goal
 
