@@ -1,7 +1,7 @@
 //! The laws of the machine. Each stands over the definitions alone.
 ghost use Rattle.domain_model.specs.Facts.{ChoicesAreFounded};
 ghost use Rattle.domain_model.specs.Files.{FilesAreAsPrepared};
-ghost use Rattle.domain_model.specs.Laws.{CounterComesBack, UnitsActAsInstructions, UnitsAreOfTheirSorts, SkipsPassAsInstructions, TurnsAreLawful, RunsAreLawful, RunsEnd};
+ghost use Rattle.domain_model.specs.Laws.{CounterComesBack, UnitsActAsInstructions, UnitsAreOfTheirSorts, SkipsPassAsInstructions, TurnsAreLawful, RunsAreLawful, FewerTurnsRemain, RunsEnd};
 
 /// Law: a unit's instruction does what the processor does by it wherever its program counter stands, for one that leads to
 /// the next instruction, as that of each plain unit and of each store does; a skip passes over a unit where the processor
@@ -28,9 +28,11 @@ pub fn every_turn_is_lawful()
     ensures runs { RunsAreLawful }
 {}
 
-/// Law: from every good state there is a run to an end.
+/// Law: from every good state there is a run to an end, and no run goes on for ever: each turn leaves fewer to come. A module whose
+/// code loops runs to the watchdog or to the end of the budget.
 pub fn every_good_state_runs_to_an_end()
-    ensures { RunsEnd }
+    ensures fewer { FewerTurnsRemain }
+    ensures end { RunsEnd }
 {}
 
 /// Law: a file that came to a module is an image that no rewriter made, whose code no condition refuses, and the module

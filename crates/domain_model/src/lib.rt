@@ -7,6 +7,8 @@
 //! - `State`: the processor, the kernel's lists, the units of the loaded modules, and what is still to come.
 //! - `Units`: the units that can run. `Prepared`: what the file of an image comes to. `Files`: what such a file is, in
 //!   the words of images and of code. `Loader`: which events of a script are for the loader. `Command`: what the words of the command line mean.
+//! - `Modules`: the loaded modules by domain and id. `Given`: the blocks that a request is given. `Calls`: what each kernel
+//!   call does.
 //! - `Act`: what one unit does, its instruction by the effect that `avr_machine` gives it. `Free`: the bytes whose values a
 //!   run leaves open.
 //! - `Turn`: which turn comes next, what it does, and the runs of turns.
