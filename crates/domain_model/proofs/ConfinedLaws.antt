@@ -1,5 +1,5 @@
 -- Confinement: what a unit changes is the running domain's, and a fault changes no domain's bytes.
-use Rattle.std.proofs.Common.{◌≡◌, ◌≢◌, ℕ, ◌+◌, ◌≤◌, inl, inr, ◌&&◌, nat_le, List, Bool, true, false, refl, sym, ap, ◌∙◌, subst, arith, Option, Some, None, slice_index}
+use Rattle.std.proofs.Common.{◌≡◌, ◌≢◌, ℕ, ◌+◌, ◌≤◌, inl, inr, ◌&&◌, nat_le, List, Bool, true, false, refl, sym, ap, ◌∙◌, subst, arith, Option, Some, slice_index}
 use Rattle.std.proofs.lemmas.Bool.{cases_Bool, or_cases, or_parts, and_parts, leb-true, true≢false}
 use Rattle.mote_layout.specs.Memory.{ram_start, red_zone_start, kernel_bytes_start, kernel_bytes_end}
 use Rattle.domain_model.specs.declared.event.Choice.TheVariants.{Acts}
