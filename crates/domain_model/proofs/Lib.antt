@@ -11,6 +11,7 @@ pub mod StackLaws
 pub mod ActLaws
 pub mod MachineLaws
 pub mod CloseLaws
+pub mod OwningLaws
 pub mod TurnLaws
 pub mod FewerLaws
 pub mod StartLaws

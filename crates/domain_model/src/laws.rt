@@ -1,6 +1,7 @@
 //! The laws of the machine. Each stands over the definitions alone.
 ghost use Rattle.domain_model.specs.Facts.{ChoicesAreFounded};
 ghost use Rattle.domain_model.specs.Files.{FilesAreAsPrepared};
+ghost use Rattle.domain_model.specs.Others.{CallsLeaveOthers, RefusedCallsChangeNothing, OwnBlocksAreServed};
 ghost use Rattle.domain_model.specs.Laws.{CounterComesBack, UnitsActAsInstructions, UnitsAreOfTheirSorts, SkipsPassAsInstructions, TurnsAreLawful, RunsAreLawful, FewerTurnsRemain, RunsEnd};
 
 /// Law: a unit's instruction does what the processor does by it wherever its program counter stands, for one that leads to
@@ -11,6 +12,15 @@ pub fn units_act_as_instructions()
     ensures sorts { UnitsAreOfTheirSorts }
     ensures effect { UnitsActAsInstructions }
     ensures skip { SkipsPassAsInstructions }
+{}
+
+/// Law: a kernel call leaves to others what is theirs. Every other domain keeps its blocks, each byte that changes is one that was given out
+/// and is cleared, and all but the answer, the queues and the blocks stays. A call whose block isn't the caller's is refused, and changes
+/// nothing; one of the caller's blocks is always freed and handed over.
+pub fn kernel_calls_leave_others()
+    ensures others { CallsLeaveOthers }
+    ensures refused { RefusedCallsChangeNothing }
+    ensures served { OwnBlocksAreServed }
 {}
 
 /// Law: which turn comes, in words. Outside a handler an event that is due comes; else a message that waits is
