@@ -1,15 +1,15 @@
 -- A kernel call takes nothing from others.
-use Rattle.std.proofs.Common.{◌≡◌, ◌≢◌, ℕ, zero, suc, ◌⊎◌, ◌+◌, ◌-◌, ◌*◌, ◌<◌, ◌≤◌, ◌↔◌, ◌==◌, inl, inr, not, nat_lt, List, [], ◌∷◌, ◌++◌, length, take, drop, get_or, cond, Bool, true, false, refl, sym, ap, ◌∙◌, subst, arith, Option, Some, None, IsSomeAnd}
-use Rattle.std.specs.Prelude.{replicate, slice_index, slice_set, option_map}
+use Rattle.std.proofs.Common.{◌≡◌, ◌≢◌, ℕ, zero, suc, ◌⊎◌, ◌+◌, ◌-◌, ◌*◌, ◌<◌, ◌≤◌, ◌==◌, inl, inr, not, nat_lt, List, [], ◌∷◌, ◌++◌, length, take, drop, Bool, true, false, refl, sym, ap, ◌∙◌, subst, arith, Option, Some, None, IsSomeAnd}
+use Rattle.std.specs.Prelude.{replicate, slice_index, slice_set}
 use Rattle.std.specs.List.{AllByRecursion}
 use Rattle.std.specs.Option.{option_map_or}
 use Rattle.std.proofs.Math.ListN.{get_or-append}
-use Rattle.std.proofs.lemmas.Bool.{cases_Bool, cond-true, cond-false, cond_both, eqb-true, eqb-false, true≢false, not-true}
+use Rattle.std.proofs.lemmas.Bool.{cases_Bool, cond-true, cond-false, cond_both, eqb-true, eqb-false, true≢false}
 use Rattle.std.proofs.lemmas.Option.{none-some, same_Some}
 use Rattle.std.proofs.lemmas.List.{get_or-append_right, get_or-set_other, length-replicate, length-take-le}
 use Rattle.mote_base.specs.Messages.{list_of, queue_limit}
 use Rattle.mote_layout.specs.Memory.{ram_start, ram_bytes, block_bytes}
-use Rattle.mote_layout.specs.Blocks.{AreBlocks, AreBlocksFrom, AreFree, Owns, owns, Covers, covers, block_address, block_of, inserted, without, given_to, handed_over}
+use Rattle.mote_layout.specs.Blocks.{AreBlocks, AreBlocksFrom, AreFree, Owns, owns, Covers, block_address, block_of, inserted, without, given_to, handed_over}
 use Rattle.mote_layout.specs.Fit.{blocks_for}
 use Rattle.mote_layout.specs.Requests.{Holds, holds, address_for, beginning_at, segment_for, served}
 use Rattle.mote_layout.specs.declared.segment.Segment.{Segment}
@@ -21,10 +21,10 @@ use Rattle.domain_model.specs.declared.fault.Served.TheVariants.{Fault}
 use Rattle.domain_model.specs.State.{Processor, Message, Loaded, KernelState, register, pair, with_pair, with_zeros}
 use Rattle.domain_model.specs.Units.{Service, Malloc, Free, ChangeOwn, PostShort, Say, Clock, MyId}
 use Rattle.domain_model.specs.Modules.{is_loaded, module_named}
-use Rattle.domain_model.specs.Given.{Given, given_at, given}
+use Rattle.domain_model.specs.Given.{given_at}
 use Rattle.domain_model.specs.Calls.{answered, malloc_given, free_held, changed_to, change_held, message_of, post_where, post_to, serve}
-use Rattle.domain_model.specs.Others.{IsGivenOut, LeavesOthers, IsRefused, CallsLeaveOthers, RefusedCallsChangeNothing, OwnBlocksAreServed}
-use Rattle.domain_model.proofs.BlockLaws.{IsPlaced, is_placed}
+use Rattle.domain_model.specs.Others.{LeavesOthers, IsRefused, CallsLeaveOthers, RefusedCallsChangeNothing, OwnBlocksAreServed}
+use Rattle.domain_model.proofs.BlockLaws.{is_placed}
 use Rattle.domain_model.proofs.StackLaws.{zeros_within}
 
 -- The segment that an owner holds at an address is the only one that begins there.
@@ -63,9 +63,9 @@ only_one low d (t ∷ ts) a s fit e own =
             none_begins (t.first + t.count) (block_of a) d ts fit.1 (omega (arith, at, fit.0.1)),
           )
       | inr other ↦ (
-          λ b. absurd (eqb-false (block_address t.first) a other (omega (arith, start, eqb-true t.first (block_of a) b))),
-          only_one (t.first + t.count) d ts a s fit.1 (sym (cond-false (block_address t.first == a) (Some t) (beginning_at ts a) other) ∙ e) own,
-        )
+        λ b. absurd (eqb-false (block_address t.first) a other (omega (arith, start, eqb-true t.first (block_of a) b))),
+        only_one (t.first + t.count) d ts a s fit.1 (sym (cond-false (block_address t.first == a) (Some t) (beginning_at ts a) other) ∙ e) own,
+      )
     ]
 
 held_by : (o : Option Segment) (d : ℕ) (ss : List Segment) (a : ℕ) → AreBlocks ss → beginning_at ss a ≡ o → IsSomeAnd o (λ s. s.owner ≡ d) → AllByRecursion (BeginsOf (block_of a) d) ss

@@ -1,5 +1,5 @@
 -- What a kernel call leaves as it was: everything but its answer, the queues and the caller's own blocks.
-use Rattle.std.specs.Prelude.{◌≡◌, ◌≢◌, ◌⊎◌, ℕ, ◌+◌, List, [], length, slice_index, true, false, Option, Some}
+use Rattle.std.specs.Prelude.{◌≡◌, ◌≢◌, ◌⊎◌, ℕ, ◌+◌, [], length, slice_index, true, false, Option, Some}
 use Rattle.mote_layout.specs.Memory.{ram_start, ram_bytes}
 use Rattle.mote_layout.specs.Blocks.{AreBlocks, owns}
 use Rattle.mote_layout.specs.Requests.{Holds}
