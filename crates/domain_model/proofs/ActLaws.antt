@@ -30,6 +30,7 @@ use Rattle.domain_model.specs.Calls.{malloc_given, free_held, change_held, chang
 use Rattle.domain_model.specs.Act.{Acted, goes_to, goes_on, act, act_running, act_at, act_effect, act_under, act_group, act_reserve, act_skip, act_branch, act_return, act_call, passes, taken, group_sp, has_room, store_address, may_store, bank, next_unit}
 use Rattle.domain_model.specs.Free.{calls_kernel, ends_handler}
 use Rattle.domain_model.specs.Good.{GoodMachine, GoodModule, GoodHandler, GoodRunning, GoodHand, GoodEnding}
+use Rattle.domain_model.specs.Laws.{LastUnitsChangeNothing}
 use Rattle.domain_model.proofs.UnitLaws.{proper_fits, not_last, built_at, target_at, skip_at}
 use Rattle.domain_model.proofs.Kept.{each_contained, any_nowhere}
 use Rattle.domain_model.proofs.ModuleLaws.{found}
@@ -205,14 +206,17 @@ act_unloads_nothing k r time id c =
     let quiet = quiet_by (calls_from k.running r) k r (act k r) (act_outcome k r) in
     true≢false (each_contained (λ x. is_unload x ≡ false) (act k r).lines (line.Unload time id) (any_nowhere is_unload (act k r).lines quiet) c)
 
--- what ends the handler changes nothing
-end_by : (calls : Bool) (k : KernelState) (r : RunnerState) (got : Acted) → Outcome calls k r got → ends_handler got.ending ≡ true → got.kernel ≡ k
-end_by calls k r _ (ends ending over) e = refl
+-- what ends the handler changes nothing and writes nothing
+end_by : (calls : Bool) (k : KernelState) (r : RunnerState) (got : Acted) → Outcome calls k r got → ends_handler got.ending ≡ true → (got.kernel ≡ k) × (got.runner ≡ r) × (got.lines ≡ [])
+end_by calls k r _ (ends ending over) e = (refl, refl, refl)
 end_by calls k r _ (moves p unit) e = absurd (cc)
 end_by calls k r _ (serves n lines call s) e = absurd (cc)
 
+pub last_units_change_nothing : LastUnitsChangeNothing
+last_units_change_nothing k r e = end_by (calls_from k.running r) k r (act k r) (act_outcome k r) e
+
 pub end_changes_nothing : (k : KernelState) (r : RunnerState) → ends_handler (act k r).ending ≡ true → (act k r).kernel ≡ k
-end_changes_nothing k r e = end_by (calls_from k.running r) k r (act k r) (act_outcome k r) e
+end_changes_nothing k r e = (last_units_change_nothing k r e).0
 
 -- The unit that runs.
 

@@ -20,7 +20,7 @@ use Rattle.domain_model.specs.declared.line.TraceLine.{TraceLine}
 use Rattle.domain_model.specs.declared.line.TraceLine.TheVariants as line
 use Rattle.domain_model.specs.State.{Processor, Message, Loaded, KernelState, RunnerState, State, at_counter, without_counter, seats}
 use Rattle.domain_model.specs.Act.{act, plain_effect, passes, bank}
-use Rattle.domain_model.specs.Free.{enters_kernel}
+use Rattle.domain_model.specs.Free.{ends_handler, enters_kernel}
 use Rattle.domain_model.specs.Modules.{without_domain}
 use Rattle.domain_model.specs.Turn.{choice, Turn, RunBy, RunFrom}
 use Rattle.domain_model.specs.Good.{Good}
@@ -152,6 +152,11 @@ skipped false over address = address
 abbrev pub SkipsPassAsInstructions : Type 0
 SkipsPassAsInstructions = (i : Instr) (over address : ℕ) (p : Processor) → IsSkip i
     → effect i over (at_counter p address) ≡ at_counter p (skipped (passes i p) over address)
+
+-- A unit that ends the handler, by its return or by a fault, changes nothing and writes nothing: the turn does the rest.
+abbrev pub LastUnitsChangeNothing : Type 0
+LastUnitsChangeNothing = (k : KernelState) (r : RunnerState) → ends_handler (act k r).ending ≡ true
+    → ((act k r).kernel ≡ k) × ((act k r).runner ≡ r) × ((act k r).lines ≡ [])
 
 -- Every turn from a good state is lawful.
 abbrev pub TurnsAreLawful : Type 0

@@ -2,16 +2,18 @@
 ghost use Rattle.domain_model.specs.Facts.{ChoicesAreFounded};
 ghost use Rattle.domain_model.specs.Files.{FilesAreAsPrepared};
 ghost use Rattle.domain_model.specs.Others.{CallsLeaveOthers, RefusedCallsChangeNothing, OwnBlocksAreServed};
-ghost use Rattle.domain_model.specs.Laws.{CounterComesBack, UnitsActAsInstructions, UnitsAreOfTheirSorts, SkipsPassAsInstructions, TurnsAreLawful, RunsAreLawful, FewerTurnsRemain, RunsEnd};
+ghost use Rattle.domain_model.specs.Laws.{CounterComesBack, UnitsActAsInstructions, UnitsAreOfTheirSorts, SkipsPassAsInstructions, LastUnitsChangeNothing, TurnsAreLawful, RunsAreLawful, FewerTurnsRemain, RunsEnd};
 
 /// Law: a unit's instruction does what the processor does by it wherever its program counter stands, for one that leads to
 /// the next instruction, as that of each plain unit and of each store does; a skip passes over a unit where the processor
-/// passes over an instruction, and does nothing else; and a program counter is all that the processor of this machine lacks.
+/// passes over an instruction, and does nothing else; a program counter is all that the processor of this machine lacks; and a
+/// unit that ends the handler, by a fault too, changes nothing.
 pub fn units_act_as_instructions()
     ensures counter { CounterComesBack }
     ensures sorts { UnitsAreOfTheirSorts }
     ensures effect { UnitsActAsInstructions }
     ensures skip { SkipsPassAsInstructions }
+    ensures last { LastUnitsChangeNothing }
 {}
 
 /// Law: a kernel call leaves to others what is theirs. Every other domain keeps its blocks, each byte that changes is one that was given out
