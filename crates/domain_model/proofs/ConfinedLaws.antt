@@ -17,7 +17,7 @@ use Rattle.domain_model.specs.Facts.{IsActing}
 use Rattle.domain_model.proofs.ChoiceLaws.{choice_facts}
 use Rattle.domain_model.proofs.StackLaws.{Moves}
 use Rattle.domain_model.proofs.ActLaws.{running_good, act_keeps_banks, end_changes_nothing}
-use Rattle.domain_model.proofs.MachineLaws.{GoodOutcome, good_ends, good_moves, good_serves, good_outcome}
+use Rattle.domain_model.proofs.UnitsKept.{GoodOutcome, good_ends, good_moves, good_serves, good_outcome}
 use Rattle.domain_model.proofs.CloseLaws.{settled_rests}
 use Rattle.domain_model.proofs.TurnLaws.{step_changes_alone, step_queues, step_blocks}
 

@@ -10,6 +10,7 @@ pub mod WriteLaws
 pub mod StackLaws
 pub mod ActLaws
 pub mod MachineLaws
+pub mod UnitsKept
 pub mod CloseLaws
 pub mod OwningLaws
 pub mod TurnLaws

@@ -28,7 +28,8 @@ use Rattle.domain_model.proofs.ChoiceLaws.{choice_facts}
 use Rattle.domain_model.proofs.Kept.{each_contained}
 use Rattle.domain_model.proofs.BlockLaws.{owned_in_heap}
 use Rattle.domain_model.proofs.CloseLaws.{gone}
-use Rattle.domain_model.proofs.MachineLaws.{step_good, bank_same, bank_other, same_banks}
+use Rattle.domain_model.proofs.UnitsKept.{step_good}
+use Rattle.domain_model.proofs.MachineLaws.{bank_same, bank_other, same_banks}
 use Rattle.domain_model.proofs.TurnLaws.{step_changes_alone}
 use Rattle.domain_model.proofs.ConfinedLaws.{end_bytes, end_queues, end_blocks}
 use Rattle.domain_model.proofs.UnloadLaws.{IsQuiet, quiet_by, came_quiet, dispatch_quiet, step_quiet, faulted_unloads, settled_unloads}

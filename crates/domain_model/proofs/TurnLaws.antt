@@ -24,7 +24,8 @@ use Rattle.domain_model.proofs.ChoiceLaws.{choice_facts}
 use Rattle.domain_model.proofs.ActLaws.{with_parts, act_changes_alone}
 use Rattle.domain_model.proofs.ByteLists.{bytes_kept}
 use Rattle.domain_model.proofs.CloseLaws.{settled_rests}
-use Rattle.domain_model.proofs.MachineLaws.{clock_good, memory_good, faulted_good, came_good, dispatch_good, act_good, step_good, settled_good}
+use Rattle.domain_model.proofs.UnitsKept.{act_good, step_good}
+use Rattle.domain_model.proofs.MachineLaws.{clock_good, memory_good, faulted_good, came_good, dispatch_good, settled_good}
 
 -- The clock.
 

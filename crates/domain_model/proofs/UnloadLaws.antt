@@ -35,7 +35,7 @@ use Rattle.domain_model.proofs.Kept.{each_contained, each_filter, any_nowhere, c
 use Rattle.domain_model.proofs.ChoiceLaws.{choice_facts}
 use Rattle.domain_model.proofs.ModuleLaws.{found, contained_without, other_domain, same_module, row_of_domain}
 use Rattle.domain_model.proofs.ActLaws.{is_unload, running_good, act_unloads_nothing}
-use Rattle.domain_model.proofs.MachineLaws.{step_good}
+use Rattle.domain_model.proofs.UnitsKept.{step_good}
 use Rattle.domain_model.proofs.CloseLaws.{gone, faulted_is, over_is, over_ending_is}
 use Rattle.domain_model.proofs.TurnLaws.{leaves, step_changes_alone}
 
