@@ -1,6 +1,6 @@
 -- What one unit does: it ends the handler and changes nothing, or it moves the processor alone, or the kernel serves it; and it leaves a
 -- next unit.
-use Rattle.std.proofs.Common.{◌≡◌, ℕ, zero, suc, ◌+◌, ◌<◌, ◌≤◌, inl, inr, ◌==◌, ◌&&◌, nat_lt, nat_le, List, [], ◌∷◌, ◌++◌, length, Bool, true, false, refl, sym, ap, subst, arith, Option, Some, None, slice_get}
+use Rattle.std.proofs.Common.{◌≡◌, ℕ, zero, suc, ◌+◌, ◌<◌, ◌≤◌, inl, inr, ◌==◌, ◌&&◌, nat_lt, nat_le, List, [], ◌∷◌, ◌++◌, length, Bool, true, false, refl, subst, arith, Option, Some, None, slice_get}
 use Rattle.std.specs.List.{Contains, list_any}
 use Rattle.std.proofs.lemmas.Bool.{cond_both, or_cases, and_parts, ltb-true, leb-true, true≢false}
 use Rattle.std.proofs.lemmas.List.{length-append}
@@ -9,7 +9,7 @@ use Rattle.avr_isa.specs.declared.instruction.Instr.TheVariants as instr
 use Rattle.mote_base.specs.Messages.{Lists, list_of, in_order, queue_limit}
 use Rattle.mote_layout.specs.Memory.{ram_start, ram_end, bank_words, floor}
 use Rattle.mote_layout.specs.Blocks.{owns}
-use Rattle.mote_layout.specs.Requests.{address_for, holds}
+use Rattle.mote_layout.specs.Requests.{holds}
 use Rattle.mote_layout.specs.declared.segment.Segment.{Segment}
 use Rattle.unit_code.specs.Ends.{leaves}
 use Rattle.unit_code.specs.Proper.{LeadsBelow}
@@ -19,19 +19,20 @@ use Rattle.domain_model.specs.declared.handler.Running.{Running}
 use Rattle.domain_model.specs.declared.fault.Rule.{Rule}
 use Rattle.domain_model.specs.declared.fault.Rule.TheVariants as rule
 use Rattle.domain_model.specs.declared.fault.UnitEnd.{UnitEnd}
-use Rattle.domain_model.specs.declared.fault.UnitEnd.TheVariants.{On, Over, Fault}
+use Rattle.domain_model.specs.declared.fault.UnitEnd.TheVariants.{Over}
 use Rattle.domain_model.specs.declared.line.TraceLine.{TraceLine}
 use Rattle.domain_model.specs.declared.line.TraceLine.TheVariants as line
 use Rattle.domain_model.specs.State.{Processor, Message, Loaded, KernelState, RunnerState, register, pair, with_processor}
 use Rattle.domain_model.specs.Units.{IsBuilt, AreProper, Service, Malloc, Free, ChangeOwn, PostShort, Say, Clock, MyId, service_of}
-use Rattle.domain_model.specs.Modules.{id_at, is_loaded, module_named}
-use Rattle.domain_model.specs.Given.{Given, given_at, given}
-use Rattle.domain_model.specs.Calls.{answered, malloc_given, free_held, change_held, changed_to, message_of, post_where, post_to, serve}
+use Rattle.domain_model.specs.Modules.{is_loaded, module_named}
+use Rattle.domain_model.specs.Given.{Given, given}
+use Rattle.domain_model.specs.Calls.{malloc_given, free_held, change_held, changed_to, message_of, post_where, post_to, serve}
 use Rattle.domain_model.specs.Act.{Acted, goes_to, goes_on, act, act_running, act_at, act_effect, act_under, act_group, act_reserve, act_skip, act_branch, act_return, act_call, passes, taken, group_sp, has_room, store_address, may_store, bank, next_unit}
 use Rattle.domain_model.specs.Free.{calls_kernel, ends_handler}
 use Rattle.domain_model.specs.Good.{GoodMachine, GoodModule, GoodHandler, GoodRunning, GoodHand, GoodEnding}
+use Rattle.domain_model.specs.Laws.{LastUnitsChangeNothing}
 use Rattle.domain_model.proofs.UnitLaws.{proper_fits, not_last, built_at, target_at, skip_at}
-use Rattle.domain_model.proofs.Kept.{each_contained, any_nowhere, contained_nowhere, contained_cases}
+use Rattle.domain_model.proofs.Kept.{each_contained, any_nowhere}
 use Rattle.domain_model.proofs.ModuleLaws.{found}
 use Rattle.domain_model.proofs.BlockLaws.{owned_in_heap}
 
@@ -205,14 +206,17 @@ act_unloads_nothing k r time id c =
     let quiet = quiet_by (calls_from k.running r) k r (act k r) (act_outcome k r) in
     true≢false (each_contained (λ x. is_unload x ≡ false) (act k r).lines (line.Unload time id) (any_nowhere is_unload (act k r).lines quiet) c)
 
--- what ends the handler changes nothing
-end_by : (calls : Bool) (k : KernelState) (r : RunnerState) (got : Acted) → Outcome calls k r got → ends_handler got.ending ≡ true → got.kernel ≡ k
-end_by calls k r _ (ends ending over) e = refl
+-- what ends the handler changes nothing and writes nothing
+end_by : (calls : Bool) (k : KernelState) (r : RunnerState) (got : Acted) → Outcome calls k r got → ends_handler got.ending ≡ true → (got.kernel ≡ k) × (got.runner ≡ r) × (got.lines ≡ [])
+end_by calls k r _ (ends ending over) e = (refl, refl, refl)
 end_by calls k r _ (moves p unit) e = absurd (cc)
 end_by calls k r _ (serves n lines call s) e = absurd (cc)
 
+pub last_units_change_nothing : LastUnitsChangeNothing
+last_units_change_nothing k r e = end_by (calls_from k.running r) k r (act k r) (act_outcome k r) e
+
 pub end_changes_nothing : (k : KernelState) (r : RunnerState) → ends_handler (act k r).ending ≡ true → (act k r).kernel ≡ k
-end_changes_nothing k r e = end_by (calls_from k.running r) k r (act k r) (act_outcome k r) e
+end_changes_nothing k r e = (last_units_change_nothing k r e).0
 
 -- The unit that runs.
 

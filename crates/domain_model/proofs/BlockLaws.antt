@@ -6,7 +6,7 @@ use Rattle.std.specs.Option.{option_map_or}
 use Rattle.std.proofs.lemmas.Bool.{cases_Bool, cond-true, cond-false, cond_both, eqb-false, or_cases, and_parts, not-true}
 use Rattle.std.proofs.lemmas.Option.{none-some, same_Some}
 use Rattle.std.proofs.lemmas.List.{length-append, length-take, length-drop, length-replicate}
-use Rattle.mote_layout.specs.Memory.{ram_start, ram_bytes, heap_start, red_zone_start, block_count, block_bytes, domain_count}
+use Rattle.mote_layout.specs.Memory.{ram_start, ram_bytes, heap_start, red_zone_start, block_bytes, domain_count}
 use Rattle.mote_layout.specs.Blocks.{AreBlocks, AreBlocksFrom, block_address, covers, inserted, without, without_owner, given_to, handed_over, owns}
 use Rattle.mote_layout.specs.Fit.{IsLeastFit, least_of, fit, blocks_for}
 use Rattle.mote_layout.specs.Requests.{address_for, place_for, segment_for, served}

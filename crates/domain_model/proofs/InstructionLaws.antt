@@ -1,11 +1,11 @@
 -- What the instructions of units do to the processor, and of which sort they are.
-use Rattle.std.proofs.Common.{◌≡◌, ◌≢◌, ℕ, ℤ, ◌+◌, ◌-◌, ◌^◌, ◌<◌, ◌∙◌, nat_lt, not, inl, inr, ◌==◌, ◌||◌, cond, Bool, true, false, pos, negsuc, zero, suc, rules, refl, sym, ap, subst, arith, IsTrue, Option, Some, None}
+use Rattle.std.proofs.Common.{◌≡◌, ℕ, ℤ, ◌+◌, ◌-◌, ◌^◌, ◌∙◌, nat_lt, not, inl, inr, ◌==◌, ◌||◌, cond, Bool, true, false, pos, negsuc, zero, suc, rules, refl, sym, ap, subst, IsTrue, Option, Some, None}
 use Rattle.std.specs.Prelude.{slice_set}
 use Rattle.std.proofs.lemmas.Bool.{cases_Bool, eqb-false, eqb-true, or_parts}
 use Rattle.avr_isa.specs.declared.instruction.Instr.{Instr}
-use Rattle.avr_isa.specs.declared.instruction.Instr.TheVariants.{Cpse, Sbrc, Sbrs, Rjmp, Rcall, Call, Brbs, Brbc, In, Out, LdXInc, LdXDec, LdYInc, LdYDec, LdZInc, LdZDec, StX, StdY, StdZ, Sts, StXInc, StXDec, StYInc, StYDec, StZInc, StZDec, Push, Pop}
+use Rattle.avr_isa.specs.declared.instruction.Instr.TheVariants.{Cpse, Sbrc, Sbrs, Rcall, Call, In, Out, LdXInc, LdXDec, LdYInc, LdYDec, LdZInc, LdZDec, StXInc, StXDec, StYInc, StYDec, StZInc, StZDec, Push, Pop}
 use Rattle.avr_machine.specs.Conditions.{IsApartFrom, IsSkip, IsStraight}
-use Rattle.avr_machine.specs.Effect.{effect, goes_where, popped, writes}
+use Rattle.avr_machine.specs.Effect.{goes_where, popped, writes}
 use Rattle.avr_alu.specs.Bits.{is_set}
 use Rattle.avr_machine.specs.Processor.{lowered, raised}
 use Rattle.avr_machine.specs.Write.{after}

@@ -1,10 +1,10 @@
 -- What the changes of an instruction keep: registers, memory and SREG hold bytes, and no byte of the memory changes but one that may.
-use Rattle.std.proofs.Common.{◌≡◌, ◌≢◌, ℕ, ℤ, pos, negsuc, ◌+◌, ◌-◌, ◌*◌, ◌/◌, ◌%◌, ◌^◌, ◌<◌, ◌≤◌, ◌==◌, ◌&&◌, inl, inr, nat_lt, nat_le, List, [], ◌∷◌, length, cond, Bool, true, false, rules, refl, sym, ap, ◌∙◌, subst, arith}
+use Rattle.std.proofs.Common.{◌≡◌, ◌≢◌, ℕ, ℤ, pos, negsuc, ◌+◌, ◌-◌, ◌^◌, ◌<◌, ◌≤◌, ◌==◌, ◌&&◌, inl, inr, nat_lt, nat_le, List, [], ◌∷◌, length, Bool, true, false, rules, refl, sym, ◌∙◌, subst, arith}
 use Rattle.std.specs.Prelude.{slice_index, slice_set}
 use Rattle.std.specs.List.{AllByRecursion}
 use Rattle.std.specs.Int.{from_bool}
 use Rattle.std.specs.Int.Bits.{and_lt}
-use Rattle.std.proofs.lemmas.Bool.{cases_Bool, cases_eq, cond_both}
+use Rattle.std.proofs.lemmas.Bool.{cases_eq, cond_both}
 use Rattle.std.proofs.lemmas.List.{length-set, get_or-set_other}
 use Rattle.std.proofs.lemmas.Nat.{or_lt, xor_lt}
 use Rattle.avr_isa.specs.Operands.{IsEncodable}
@@ -16,24 +16,23 @@ use Rattle.avr_alu.specs.declared.logic.Logic.TheVariants.{And as and_bits, Or a
 use Rattle.avr_alu.specs.declared.one.One.{One}
 use Rattle.avr_alu.specs.declared.one.One.TheVariants.{Com as complement, Neg as neg, Inc as inc, Dec as dec, Swap as swap, Lsr as lsr, Ror as ror, Asr as asr}
 use Rattle.avr_alu.specs.declared.mul.Mul.{Mul as Product}
-use Rattle.avr_alu.specs.Bits.{is_set, with_bit}
-use Rattle.avr_alu.specs.Flags.{flags_of, sreg_of}
+use Rattle.avr_alu.specs.Bits.{with_bit}
+use Rattle.avr_alu.specs.Flags.{sreg_of}
 use Rattle.avr_alu.specs.Sum.{add_value, sub_value}
 use Rattle.avr_alu.specs.Logic.{logic_value}
 use Rattle.avr_alu.specs.One.{one_value, shifted_right}
-use Rattle.avr_alu.specs.Mul.{mul_product, mul_scale, mul_value, word_of}
+use Rattle.avr_alu.specs.Mul.{mul_value, word_of}
 use Rattle.avr_alu.specs.Word.{word_add_value, word_sub_value}
 use Rattle.avr_alu.proofs.BitLemmas.{set_is, cleared_is}
-use Rattle.avr_machine.specs.Processor.{Processor as CountingProcessor, register, pair, low, high, lowered, raised, transfer_bit}
+use Rattle.avr_machine.specs.Processor.{Processor as CountingProcessor, pair, low, high, lowered, raised, transfer_bit}
 use Rattle.avr_machine.specs.DataRead.{data_read}
-use Rattle.avr_machine.specs.Effect.{added, compared, subtracted, combined, changed, multiplied, load_rising, load_falling, load_behind, store_rising, store_falling, store_behind, writes}
+use Rattle.avr_machine.specs.Effect.{load_falling, writes}
 use Rattle.avr_machine.specs.Modes.{store_address as address_by_mode}
 use Rattle.avr_machine.specs.Write.{Write, set_register, set_pair, set_byte, set_port, set_sp, set_sreg, set_pc, after, written}
-use Rattle.mote_layout.specs.Memory.{register_count, spl, sph, sreg, ram_start, ram_end, spl_port, sph_port, sreg_port, pointer_x, pointer_y, pointer_z}
+use Rattle.mote_layout.specs.Memory.{register_count, spl, sph, sreg, ram_start, ram_end, sreg_port, pointer_x, pointer_y, pointer_z}
 use Rattle.unit_code.specs.declared.unit.Unit.TheVariants.{Plain, Store}
 use Rattle.unit_code.specs.Kinds.{standing_of}
 use Rattle.unit_code.specs.Proper.{IsOfKind}
-use Rattle.domain_model.specs.Bytes.{AreBytes}
 use Rattle.domain_model.specs.State.{Processor, at_counter, without_counter}
 use Rattle.domain_model.specs.Act.{plain_effect, store_address}
 use Rattle.domain_model.proofs.ByteLists.{HasBytes, bytes_set, low_byte, high_byte, pair_word}
@@ -309,7 +308,7 @@ pub plain_keeps : (i : Instr) (p : Processor) → IsOfKind (Plain i) → HasByte
 plain_keeps i p kind h small = changes_kept (λ a. ⊥) (writes i 0 (at_counter p 0)) (at_counter p 0) (plain_own i p kind h small) h
 
 -- a store changes the byte at its address
-abbrev AtAddress : Instr → Processor → ℕ → Type 0
+abbrev pub AtAddress : Instr → Processor → ℕ → Type 0
 AtAddress i p a = a ≡ store_address i p
 
 store_own : (i : Instr) (p : Processor) → IsOfKind (Store i) → HasBytes p → ram_start ≤ store_address i p → AllByRecursion (IsOwnWrite (AtAddress i p)) (writes i 0 (at_counter p 0))

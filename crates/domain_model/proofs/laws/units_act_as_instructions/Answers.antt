@@ -1,6 +1,5 @@
-use Rattle.domain_model.proofs.ActLaws.{act_outcome}
-use Rattle.domain_model.proofs.WriteLaws.{changes_kept}
 use Rattle.domain_model.proofs.InstructionLaws.{counter_comes_back, acts_at_every_counter, units_are_of_their_sorts, skips_pass_as_instructions}
+use Rattle.domain_model.proofs.ActLaws.{last_units_change_nothing}
 use Rattle.domain_model.proofs.laws.units_act_as_instructions.Goals as goal
 
 pub returns-clause-counter : goal.returns-clause-counter
@@ -14,3 +13,6 @@ returns-clause-effect c = acts_at_every_counter
 
 pub returns-clause-skip : goal.returns-clause-skip
 returns-clause-skip c = skips_pass_as_instructions
+
+pub returns-clause-last : goal.returns-clause-last
+returns-clause-last c = last_units_change_nothing
