@@ -1,175 +1,222 @@
--- What one unit does: it changes the processor and the queues alone, keeps the stack pointer, and leaves a next unit.
-use Rattle.std.proofs.Common.{◌≡◌, ℕ, zero, suc, ◌+◌, ◌<◌, ◌≤◌, inl, inr, ◌==◌, ◌&&◌, nat_lt, nat_le, List, [], ◌∷◌, ◌++◌, length, Bool, true, false, refl, sym, ap, subst, arith, Option, Some, None, slice_get}
-use Rattle.std.specs.List.{Contains}
-use Rattle.std.proofs.lemmas.Bool.{cond_both, or_cases, and_parts, ltb-true, leb-true}
-use Rattle.std.proofs.lemmas.List.{length-set, length-append}
+-- What one unit does: it ends the handler and changes nothing, or it moves the processor alone, or the kernel serves it; and it leaves a
+-- next unit.
+use Rattle.std.proofs.Common.{◌≡◌, ℕ, zero, suc, ◌+◌, ◌<◌, ◌≤◌, inl, inr, ◌==◌, ◌&&◌, nat_lt, nat_le, List, [], ◌∷◌, ◌++◌, length, Bool, true, false, refl, subst, arith, Option, Some, None, slice_get}
+use Rattle.std.specs.List.{Contains, list_any}
+use Rattle.std.proofs.lemmas.Bool.{cond_both, or_cases, and_parts, ltb-true, leb-true, true≢false}
+use Rattle.std.proofs.lemmas.List.{length-append}
 use Rattle.avr_isa.specs.declared.instruction.Instr.{Instr}
-use Rattle.avr_isa.specs.declared.instruction.Instr.TheVariants.{Ldi, Mov, StX}
+use Rattle.avr_isa.specs.declared.instruction.Instr.TheVariants as instr
 use Rattle.mote_base.specs.Messages.{Lists, list_of, in_order, queue_limit}
-use Rattle.mote_layout.specs.Memory.{ram_start, ram_end, bank_words}
+use Rattle.mote_layout.specs.Memory.{ram_start, ram_end, bank_words, floor}
 use Rattle.mote_layout.specs.Blocks.{owns}
-use Rattle.unit_code.specs.declared.unit.Unit.{Unit}
-use Rattle.unit_code.specs.declared.unit.Unit.TheVariants.{Plain, Store, KernelCall, Return}
-use Rattle.domain_model.specs.declared.handler.Running.{Running}
-use Rattle.domain_model.specs.declared.line.TraceLine.TheVariants as line
-use Rattle.domain_model.specs.State.{Processor, Message, KernelState, RunnerState, register, with_register, with_byte}
-use Rattle.domain_model.specs.Act.{act, act_running, act_at, act_store, act_return, act_call, is_loaded, message_of, post_where, post_to, plain_effect, store_address, may_store, bank, next_unit}
-use Rattle.domain_model.specs.Units.{IsBuilt, AreProper, Service, PostShort, Say, MyId, service_of}
-use Rattle.domain_model.specs.Good.{GoodMachine, GoodModule, GoodHandler, GoodRunning, GoodHand, GoodEnding}
+use Rattle.mote_layout.specs.Requests.{holds}
+use Rattle.mote_layout.specs.declared.segment.Segment.{Segment}
 use Rattle.unit_code.specs.Ends.{leaves}
-use Rattle.domain_model.proofs.InstructionLaws.{ldi_effect, mov_effect, stx_effect}
-use Rattle.domain_model.proofs.UnitLaws.{proper_fits, not_last}
-use Rattle.domain_model.proofs.Kept.{each_at, each_contained, contained_nowhere, contained_cases}
+use Rattle.unit_code.specs.Proper.{LeadsBelow}
+use Rattle.unit_code.specs.declared.unit.Unit.{Unit}
+use Rattle.unit_code.specs.declared.unit.Unit.TheVariants.{Plain, Store, Push, Pop, SpGroup, Reserve, Skip, Branch, Jump, KernelCall, Return}
+use Rattle.domain_model.specs.declared.handler.Running.{Running}
+use Rattle.domain_model.specs.declared.fault.Rule.{Rule}
+use Rattle.domain_model.specs.declared.fault.Rule.TheVariants as rule
+use Rattle.domain_model.specs.declared.fault.UnitEnd.{UnitEnd}
+use Rattle.domain_model.specs.declared.fault.UnitEnd.TheVariants.{Over}
+use Rattle.domain_model.specs.declared.line.TraceLine.{TraceLine}
+use Rattle.domain_model.specs.declared.line.TraceLine.TheVariants as line
+use Rattle.domain_model.specs.State.{Processor, Message, Loaded, KernelState, RunnerState, register, pair, with_processor}
+use Rattle.domain_model.specs.Units.{IsBuilt, AreProper, Service, Malloc, Free, ChangeOwn, PostShort, Say, Clock, MyId, service_of}
+use Rattle.domain_model.specs.Modules.{is_loaded, module_named}
+use Rattle.domain_model.specs.Given.{Given, given}
+use Rattle.domain_model.specs.Calls.{malloc_given, free_held, change_held, changed_to, message_of, post_where, post_to, serve}
+use Rattle.domain_model.specs.Act.{Acted, goes_to, goes_on, act, act_running, act_at, act_effect, act_under, act_group, act_reserve, act_skip, act_branch, act_return, act_call, passes, taken, group_sp, has_room, store_address, may_store, bank, next_unit}
+use Rattle.domain_model.specs.Free.{calls_kernel, ends_handler}
+use Rattle.domain_model.specs.Good.{GoodMachine, GoodModule, GoodHandler, GoodRunning, GoodHand, GoodEnding}
+use Rattle.domain_model.specs.Laws.{LastUnitsChangeNothing}
+use Rattle.domain_model.proofs.UnitLaws.{proper_fits, not_last, built_at, target_at, skip_at}
+use Rattle.domain_model.proofs.Kept.{each_contained, any_nowhere}
 use Rattle.domain_model.proofs.ModuleLaws.{found}
 use Rattle.domain_model.proofs.BlockLaws.{owned_in_heap}
 
--- A unit changes the processor and the queues alone.
+-- The kernel with another processor, other queues and other blocks.
+abbrev pub with_parts : KernelState → Processor → Lists Message → List Segment → KernelState
+with_parts k p queues blocks = record k { processor = p; queues = queues; blocks = blocks }
 
--- the kernel with another processor and other queues
-abbrev pub with_both : KernelState → Processor → Lists Message → KernelState
-with_both k p queues = record k { processor = p; queues = queues }
+abbrev pub is_unload : TraceLine → Bool
+is_unload (line.Unload t i) = true
+is_unload _ = false
 
-abbrev Alone : KernelState → KernelState → Type 0
-Alone k n = n ≡ with_both k n.processor n.queues
+-- The kernel serves a call: it changes these alone, posts one message at most, and writes one line at most, which unloads nothing.
+pub record Serves (k n : KernelState) (lines : List TraceLine) : Type 0 where
+  pub alone : n ≡ with_parts k n.processor n.queues n.blocks
+  pub more : length (in_order n.queues) ≤ length (in_order k.queues) + 1
+  pub few : length lines ≤ 1
+  pub quiet : list_any is_unload lines ≡ false
 
-alone_store : (b : Bool) (i : Instr) (k : KernelState) (r : RunnerState) → Alone k (act_store b i k r).kernel
-alone_store true i k r = refl
-alone_store false i k r = refl
+-- The three ways of a unit, which calls the kernel or not.
+pub data Outcome (calls : Bool) (k : KernelState) (r : RunnerState) : Acted → Type 0 where
+  ends : (ending : UnitEnd) → ends_handler ending ≡ true → Outcome calls k r (record { kernel = k; runner = r; lines = []; ending = ending })
+  moves : (p : Processor) (unit : ℕ) → Outcome calls k r (goes_to unit (with_processor k p) r [])
+  serves : (n : KernelState) (lines : List TraceLine) → calls ≡ true → Serves k n lines → Outcome calls k r (goes_on n r lines)
 
-alone_return : (b : Bool) (k : KernelState) (r : RunnerState) → Alone k (act_return b k r).kernel
-alone_return true k r = refl
-alone_return false k r = refl
+-- Each unit goes one of the three.
 
-alone_where : (b : Bool) (m : Message) (k : KernelState) → Alone k (post_where b m k)
-alone_where true m k = refl
-alone_where false m k = refl
+effect_outcome : (b calls : Bool) (why : Rule) (address : ℕ) (i : Instr) (k : KernelState) (r : RunnerState) → Outcome calls k r (act_effect b why address i k r)
+effect_outcome true calls why address i k r = moves _ (r.unit + 1)
+effect_outcome false calls why address i k r = ends _ refl
 
-alone_to : (b : Bool) (m : Message) (k : KernelState) → Alone k (post_to b m k)
-alone_to true m k = alone_where (nat_lt (length (list_of m.high k.queues)) queue_limit) m k
-alone_to false m k = refl
+under_outcome : (b calls with_sreg : Bool) (k : KernelState) (r : RunnerState) → Outcome calls k r (act_under b with_sreg k r)
+under_outcome true calls with_sreg k r = moves _ (r.unit + 1)
+under_outcome false calls with_sreg k r = ends _ refl
 
-alone_call : (o : Option Service) (run : Running) (k : KernelState) (r : RunnerState) → Alone k (act_call o run k r).kernel
-alone_call (Some PostShort) run k r = alone_to (is_loaded k.modules (message_of k run).to) (message_of k run) k
-alone_call (Some Say) run k r = refl
-alone_call (Some MyId) run k r = refl
-alone_call None run k r = refl
+group_outcome : (b calls with_sreg : Bool) (run : Running) (k : KernelState) (r : RunnerState) → Outcome calls k r (act_group b with_sreg run k r)
+group_outcome true calls with_sreg run k r = under_outcome (nat_le (group_sp k.processor) run.base) calls with_sreg k r
+group_outcome false calls with_sreg run k r = ends _ refl
 
-alone_at : (o : Option Unit) (run : Running) (k : KernelState) (r : RunnerState) → Alone k (act_at o run k r).kernel
-alone_at None run k r = refl
-alone_at (Some (Plain i)) run k r = refl
-alone_at (Some (Store i)) run k r = alone_store (may_store k run (store_address i k.processor)) i k r
-alone_at (Some (KernelCall n)) run k r = alone_call (service_of n) run k r
-alone_at (Some Return) run k r = alone_return (k.processor.sp == run.base) k r
-alone_at (Some _) run k r = refl
+reserve_outcome : (b calls : Bool) (k : KernelState) (r : RunnerState) → Outcome calls k r (act_reserve b k r)
+reserve_outcome true calls k r = moves _ (r.unit + 1)
+reserve_outcome false calls k r = ends _ refl
 
-alone_running : (o : Option Running) (k : KernelState) (r : RunnerState) → Alone k (act_running o k r).kernel
-alone_running None k r = refl
-alone_running (Some run) k r = alone_at (next_unit r run) run k r
+skip_outcome : (b calls : Bool) (k : KernelState) (r : RunnerState) → Outcome calls k r (act_skip b k r)
+skip_outcome true calls k r = moves k.processor (r.unit + 2)
+skip_outcome false calls k r = moves k.processor (r.unit + 1)
 
-pub act_changes_alone : (k : KernelState) (r : RunnerState) → (act k r).kernel ≡ with_both k (act k r).kernel.processor (act k r).kernel.queues
-act_changes_alone k r = alone_running k.running k r
+branch_outcome : (b calls : Bool) (target : ℕ) (k : KernelState) (r : RunnerState) → Outcome calls k r (act_branch b target k r)
+branch_outcome true calls target k r = moves k.processor target
+branch_outcome false calls target k r = moves k.processor (r.unit + 1)
 
--- A unit changes no bank.
+return_outcome : (b calls : Bool) (k : KernelState) (r : RunnerState) → Outcome calls k r (act_return b k r)
+return_outcome true calls k r = ends Over refl
+return_outcome false calls k r = ends _ refl
 
-banks_store : (b : Bool) (i : Instr) (k : KernelState) (r : RunnerState) → (act_store b i k r).runner.banks ≡ r.banks
-banks_store true i k r = refl
-banks_store false i k r = refl
+-- a call that answers with other blocks, and with the same queues
+same_queues : (k : KernelState) (p : Processor) (blocks : List Segment) (lines : List TraceLine) → length lines ≤ 1 → list_any is_unload lines ≡ false → Serves k (with_parts k p k.queues blocks) lines
+same_queues k p blocks lines few quiet = record { alone = refl; more = omega arith; few = few; quiet = quiet }
 
-banks_return : (b : Bool) (k : KernelState) (r : RunnerState) → (act_return b k r).runner.banks ≡ r.banks
-banks_return true k r = refl
-banks_return false k r = refl
-
-banks_call : (o : Option Service) (run : Running) (k : KernelState) (r : RunnerState) → (act_call o run k r).runner.banks ≡ r.banks
-banks_call (Some PostShort) run k r = refl
-banks_call (Some Say) run k r = refl
-banks_call (Some MyId) run k r = refl
-banks_call None run k r = refl
-
-banks_at : (o : Option Unit) (run : Running) (k : KernelState) (r : RunnerState) → (act_at o run k r).runner.banks ≡ r.banks
-banks_at None run k r = refl
-banks_at (Some (Plain i)) run k r = refl
-banks_at (Some (Store i)) run k r = banks_store (may_store k run (store_address i k.processor)) i k r
-banks_at (Some (KernelCall n)) run k r = banks_call (service_of n) run k r
-banks_at (Some Return) run k r = banks_return (k.processor.sp == run.base) k r
-banks_at (Some _) run k r = refl
-
-banks_running : (o : Option Running) (k : KernelState) (r : RunnerState) → (act_running o k r).runner.banks ≡ r.banks
-banks_running None k r = refl
-banks_running (Some run) k r = banks_at (next_unit r run) run k r
-
-pub act_keeps_banks : (k : KernelState) (r : RunnerState) → (act k r).runner.banks ≡ r.banks
-act_keeps_banks k r = banks_running k.running k r
-
--- A unit posts one message at most.
-
-more_where : (b : Bool) (m : Message) (k : KernelState) → length (in_order (post_where b m k).queues) ≤ length (in_order k.queues) + 1
-more_where true m k =
+one_more : (m : Message) (k : KernelState) → length (in_order (post_where true m k).queues) ≤ length (in_order k.queues) + 1
+one_more m k =
     cond_both m.high (record { high = k.queues.high ++ m ∷ []; low = k.queues.low }) (record { high = k.queues.high; low = k.queues.low ++ m ∷ [] })
     (λ (q : Lists Message). length (in_order q) ≤ length (in_order k.queues) + 1)
     (λ high. omega (arith, length-append (k.queues.high ++ m ∷ []) k.queues.low, length-append k.queues.high (m ∷ []), length-append k.queues.high k.queues.low))
     (λ low. omega (arith, length-append k.queues.high (k.queues.low ++ m ∷ []), length-append k.queues.low (m ∷ []), length-append k.queues.high k.queues.low))
-more_where false m k = omega arith
 
-more_to : (b : Bool) (m : Message) (k : KernelState) → length (in_order (post_to b m k).queues) ≤ length (in_order k.queues) + 1
-more_to true m k = more_where (nat_lt (length (list_of m.high k.queues)) queue_limit) m k
-more_to false m k = omega arith
+where_serves : (b : Bool) (m : Message) (k : KernelState) → Serves k (post_where b m k) []
+where_serves true m k = record { alone = refl; more = one_more m k; few = omega arith; quiet = refl }
+where_serves false m k = same_queues k _ k.blocks [] (omega arith) refl
 
-more_store : (b : Bool) (i : Instr) (k : KernelState) (r : RunnerState) → length (in_order (act_store b i k r).kernel.queues) ≤ length (in_order k.queues) + 1
-more_store true i k r = omega arith
-more_store false i k r = omega arith
+to_serves : (b : Bool) (m : Message) (k : KernelState) → Serves k (post_to b m k) []
+to_serves true m k = where_serves (nat_lt (length (list_of m.high k.queues)) queue_limit) m k
+to_serves false m k = same_queues k _ k.blocks [] (omega arith) refl
 
-more_return : (b : Bool) (k : KernelState) (r : RunnerState) → length (in_order (act_return b k r).kernel.queues) ≤ length (in_order k.queues) + 1
-more_return true k r = omega arith
-more_return false k r = omega arith
+given_serves : (o : Option Given) (k : KernelState) → Serves k (malloc_given o k) []
+given_serves None k = same_queues k _ k.blocks [] (omega arith) refl
+given_serves (Some g) k = same_queues k _ g.blocks [] (omega arith) refl
 
-more_call : (o : Option Service) (run : Running) (k : KernelState) (r : RunnerState) → length (in_order (act_call o run k r).kernel.queues) ≤ length (in_order k.queues) + 1
-more_call (Some PostShort) run k r = more_to (is_loaded k.modules (message_of k run).to) (message_of k run) k
-more_call (Some Say) run k r = omega arith
-more_call (Some MyId) run k r = omega arith
-more_call None run k r = omega arith
+changed_serves : (o : Option Loaded) (address : ℕ) (k : KernelState) → Serves k (changed_to o address k) []
+changed_serves None address k = same_queues k _ k.blocks [] (omega arith) refl
+changed_serves (Some owner) address k = same_queues k _ _ [] (omega arith) refl
 
-more_at : (o : Option Unit) (run : Running) (k : KernelState) (r : RunnerState) → length (in_order (act_at o run k r).kernel.queues) ≤ length (in_order k.queues) + 1
-more_at None run k r = omega arith
-more_at (Some (Plain i)) run k r = omega arith
-more_at (Some (Store i)) run k r = more_store (may_store k run (store_address i k.processor)) i k r
-more_at (Some (KernelCall n)) run k r = more_call (service_of n) run k r
-more_at (Some Return) run k r = more_return (k.processor.sp == run.base) k r
-more_at (Some _) run k r = omega arith
+free_outcome : (b : Bool) (address : ℕ) (k : KernelState) (r : RunnerState) → Outcome true k r (act_call (free_held b address k) r)
+free_outcome false address k r = ends _ refl
+free_outcome true address k r = serves _ [] refl (same_queues k _ _ [] (omega arith) refl)
 
-more_running : (o : Option Running) (k : KernelState) (r : RunnerState) → length (in_order (act_running o k r).kernel.queues) ≤ length (in_order k.queues) + 1
-more_running None k r = omega arith
-more_running (Some run) k r = more_at (next_unit r run) run k r
+change_outcome : (b : Bool) (address : ℕ) (k : KernelState) (r : RunnerState) → Outcome true k r (act_call (change_held b address k) r)
+change_outcome false address k r = ends _ refl
+change_outcome true address k r = serves _ [] refl (changed_serves (module_named k.modules (register k.processor 22)) address k)
+
+call_outcome : (o : Option Service) (run : Running) (k : KernelState) (r : RunnerState) → Outcome true k r (act_call (serve o run k) r)
+call_outcome (Some Malloc) run k r = serves _ [] refl (given_serves (given k run.domain (pair k.processor 24)) k)
+call_outcome (Some Free) run k r = free_outcome (holds k.blocks run.domain (pair k.processor 24)) (pair k.processor 24) k r
+call_outcome (Some ChangeOwn) run k r = change_outcome (holds k.blocks run.domain (pair k.processor 24)) (pair k.processor 24) k r
+call_outcome (Some PostShort) run k r = serves _ [] refl (to_serves (is_loaded k.modules (message_of k run).to) (message_of k run) k)
+call_outcome (Some Say) run k r = serves _ _ refl (same_queues k _ k.blocks _ (omega arith) refl)
+call_outcome (Some Clock) run k r = serves _ [] refl (same_queues k _ k.blocks [] (omega arith) refl)
+call_outcome (Some MyId) run k r = serves _ [] refl (same_queues k _ k.blocks [] (omega arith) refl)
+call_outcome None run k r = serves k [] refl (same_queues k k.processor k.blocks [] (omega arith) refl)
+
+at_outcome : (o : Option Unit) (run : Running) (k : KernelState) (r : RunnerState) → Outcome (calls_kernel o) k r (act_at o run k r)
+at_outcome None run k r = ends Over refl
+at_outcome (Some (Plain i)) run k r = moves _ (r.unit + 1)
+at_outcome (Some (Store i)) run k r = effect_outcome (may_store k run (store_address i k.processor)) false rule.Store (store_address i k.processor) i k r
+at_outcome (Some (Push s)) run k r = effect_outcome (nat_lt floor k.processor.sp) false rule.StackOver k.processor.sp (instr.Push s) k r
+at_outcome (Some (Pop d)) run k r = effect_outcome (nat_lt k.processor.sp run.base) false rule.StackUnder k.processor.sp (instr.Pop d) k r
+at_outcome (Some (SpGroup with_sreg)) run k r = group_outcome (nat_le floor (group_sp k.processor)) false with_sreg run k r
+at_outcome (Some Reserve) run k r = reserve_outcome (has_room k.processor) false k r
+at_outcome (Some (Skip i)) run k r = skip_outcome (passes i k.processor) false k r
+at_outcome (Some (Branch set bit target)) run k r = branch_outcome (taken set bit k.processor) false target k r
+at_outcome (Some (Jump target)) run k r = moves k.processor target
+at_outcome (Some (KernelCall n)) run k r = call_outcome (service_of n) run k r
+at_outcome (Some Return) run k r = return_outcome (k.processor.sp == run.base) false k r
+at_outcome (Some _) run k r = ends Over refl
+
+abbrev pub calls_from : Option Running → RunnerState → Bool
+calls_from None r = true
+calls_from (Some run) r = calls_kernel (next_unit r run)
+
+running_outcome : (o : Option Running) (k : KernelState) (r : RunnerState) → Outcome (calls_from o r) k r (act_running o k r)
+running_outcome None k r = ends Over refl
+running_outcome (Some run) k r = at_outcome (next_unit r run) run k r
+
+pub act_outcome : (k : KernelState) (r : RunnerState) → Outcome (calls_from k.running r) k r (act k r)
+act_outcome k r = running_outcome k.running k r
+
+-- What holds of all three.
+
+alone_by : (calls : Bool) (k : KernelState) (r : RunnerState) (got : Acted) → Outcome calls k r got → got.kernel ≡ with_parts k got.kernel.processor got.kernel.queues got.kernel.blocks
+alone_by calls k r _ (ends ending over) = refl
+alone_by calls k r _ (moves p unit) = refl
+alone_by calls k r _ (serves n lines call s) = s.alone
+
+pub act_changes_alone : (k : KernelState) (r : RunnerState) → (act k r).kernel ≡ with_parts k (act k r).kernel.processor (act k r).kernel.queues (act k r).kernel.blocks
+act_changes_alone k r = alone_by (calls_from k.running r) k r (act k r) (act_outcome k r)
+
+-- no bank changes
+banks_by : (calls : Bool) (k : KernelState) (r : RunnerState) (got : Acted) → Outcome calls k r got → got.runner.banks ≡ r.banks
+banks_by calls k r _ (ends ending over) = refl
+banks_by calls k r _ (moves p unit) = refl
+banks_by calls k r _ (serves n lines call s) = refl
+
+pub act_keeps_banks : (k : KernelState) (r : RunnerState) → (act k r).runner.banks ≡ r.banks
+act_keeps_banks k r = banks_by (calls_from k.running r) k r (act k r) (act_outcome k r)
+
+-- one message is posted at most
+more_by : (calls : Bool) (k : KernelState) (r : RunnerState) (got : Acted) → Outcome calls k r got → length (in_order got.kernel.queues) ≤ length (in_order k.queues) + 1
+more_by calls k r _ (ends ending over) = omega arith
+more_by calls k r _ (moves p unit) = omega arith
+more_by calls k r _ (serves n lines call s) = s.more
 
 pub act_posts_one : (k : KernelState) (r : RunnerState) → length (in_order (act k r).kernel.queues) ≤ length (in_order k.queues) + 1
-act_posts_one k r = more_running k.running k r
+act_posts_one k r = more_by (calls_from k.running r) k r (act k r) (act_outcome k r)
 
--- Two processors with the same stack pointer, as many registers and as much memory.
-pub record AreAlike (p q : Processor) : Type 0 where
-  pub sp : q.sp ≡ p.sp
-  pub registers : length q.registers ≡ length p.registers
-  pub memory : length q.memory ≡ length p.memory
+-- one line is written at most
+few_by : (calls : Bool) (k : KernelState) (r : RunnerState) (got : Acted) → Outcome calls k r got → length got.lines ≤ 1
+few_by calls k r _ (ends ending over) = omega arith
+few_by calls k r _ (moves p unit) = omega arith
+few_by calls k r _ (serves n lines call s) = s.few
 
-register_alike : (p : Processor) (d v : ℕ) → AreAlike p (with_register p d v)
-register_alike p d v = record { sp = refl; registers = length-set p.registers d v; memory = refl }
+pub act_lines : (k : KernelState) (r : RunnerState) → length (act k r).lines ≤ 1
+act_lines k r = few_by (calls_from k.running r) k r (act k r) (act_outcome k r)
 
-byte_alike : (p : Processor) (a v : ℕ) → AreAlike p (with_byte p a v)
-byte_alike p a v = record { sp = refl; registers = refl; memory = length-set p.memory _ v }
+-- and it unloads nothing
+quiet_by : (calls : Bool) (k : KernelState) (r : RunnerState) (got : Acted) → Outcome calls k r got → list_any is_unload got.lines ≡ false
+quiet_by calls k r _ (ends ending over) = refl
+quiet_by calls k r _ (moves p unit) = refl
+quiet_by calls k r _ (serves n lines call s) = s.quiet
 
--- no instruction that is built moves the stack pointer
-pub plain_alike : (i : Instr) (p : Processor) → IsBuilt (Plain i) → AreAlike p (plain_effect i p)
-plain_alike (Ldi d k) p built = subst (AreAlike p) (sym (ldi_effect d k p)) (register_alike p d k)
-plain_alike (Mov d r) p built = subst (AreAlike p) (sym (mov_effect d r p)) (register_alike p d (register p r))
-plain_alike _ p built = absurd built
+pub act_unloads_nothing : (k : KernelState) (r : RunnerState) (time id : ℕ) → Contains (act k r).lines (line.Unload time id) → ⊥
+act_unloads_nothing k r time id c =
+    let quiet = quiet_by (calls_from k.running r) k r (act k r) (act_outcome k r) in
+    true≢false (each_contained (λ x. is_unload x ≡ false) (act k r).lines (line.Unload time id) (any_nowhere is_unload (act k r).lines quiet) c)
 
--- and none but a store changes a byte
-pub plain_memory : (i : Instr) (p : Processor) → IsBuilt (Plain i) → (plain_effect i p).memory ≡ p.memory
-plain_memory (Ldi d k) p built = ap (λ (q : Processor). q.memory) (ldi_effect d k p)
-plain_memory (Mov d r) p built = ap (λ (q : Processor). q.memory) (mov_effect d r p)
-plain_memory _ p built = absurd built
+-- what ends the handler changes nothing and writes nothing
+end_by : (calls : Bool) (k : KernelState) (r : RunnerState) (got : Acted) → Outcome calls k r got → ends_handler got.ending ≡ true → (got.kernel ≡ k) × (got.runner ≡ r) × (got.lines ≡ [])
+end_by calls k r _ (ends ending over) e = (refl, refl, refl)
+end_by calls k r _ (moves p unit) e = absurd (cc)
+end_by calls k r _ (serves n lines call s) e = absurd (cc)
 
-pub store_alike : (i : Instr) (p : Processor) → IsBuilt (Store i) → AreAlike p (plain_effect i p)
-store_alike (StX r) p built = subst (AreAlike p) (sym (stx_effect r p)) (byte_alike p (store_address (StX r) p) (register p r))
-store_alike _ p built = absurd built
+pub last_units_change_nothing : LastUnitsChangeNothing
+last_units_change_nothing k r e = end_by (calls_from k.running r) k r (act k r) (act_outcome k r) e
+
+pub end_changes_nothing : (k : KernelState) (r : RunnerState) → ends_handler (act k r).ending ≡ true → (act k r).kernel ≡ k
+end_changes_nothing k r e = (last_units_change_nothing k r e).0
 
 -- The unit that runs.
 
@@ -197,10 +244,10 @@ there (x ∷ xs) (suc i) h = there xs i (omega (arith, h))
 pub next_unit_built : (k : KernelState) (r : RunnerState) (run : Running) → GoodMachine k r → k.running ≡ Some run → NextUnit r run
 next_unit_built k r run h i =
     let u = there (bank r run.domain) r.unit (running_good k r run h i).0.unit in
-    record { unit = u.0; next = u.1; built = each_at IsBuilt (bank r run.domain) r.unit u.0 (bank_proper k r run h i).built u.1 }
+    record { unit = u.0; next = u.1; built = built_at (bank r run.domain) r.unit u.0 (bank_proper k r run h i) u.1 }
 
 pub unit_is_built : (k : KernelState) (r : RunnerState) (run : Running) (u : Unit) → GoodMachine k r → k.running ≡ Some run → next_unit r run ≡ Some u → IsBuilt u
-unit_is_built k r run u h i e = each_at IsBuilt (bank r run.domain) r.unit u (bank_proper k r run h i).built e
+unit_is_built k r run u h i e = built_at (bank r run.domain) r.unit u (bank_proper k r run h i) e
 
 -- its number is that of a word of a bank
 pub unit_in_bank : (k : KernelState) (r : RunnerState) (run : Running) → GoodMachine k r → k.running ≡ Some run → r.unit < bank_words
@@ -209,6 +256,14 @@ unit_in_bank k r run h i = omega (arith, (running_good k r run h i).0.unit, prop
 -- behind a unit that control goes on from stands another
 pub unit_behind : (k : KernelState) (r : RunnerState) (run : Running) (u : Unit) → GoodMachine k r → k.running ≡ Some run → next_unit r run ≡ Some u → leaves u ≡ false → r.unit + 1 < length (bank r run.domain)
 unit_behind k r run u h i e on = not_last (bank r run.domain) r.unit u (bank_proper k r run h i).proper.ends e on
+
+-- where it leads is one
+pub unit_aimed : (k : KernelState) (r : RunnerState) (run : Running) (u : Unit) → GoodMachine k r → k.running ≡ Some run → next_unit r run ≡ Some u → LeadsBelow (length (bank r run.domain)) u
+unit_aimed k r run u h i e = target_at (bank r run.domain) r.unit u (bank_proper k r run h i) e
+
+-- and so is what stands behind the unit that a skip passes over
+pub unit_skipped : (k : KernelState) (r : RunnerState) (run : Running) (j : Instr) → GoodMachine k r → k.running ≡ Some run → next_unit r run ≡ Some (Skip j) → r.unit + 2 < length (bank r run.domain)
+unit_skipped k r run j h i e = skip_at (bank r run.domain) r.unit j (bank_proper k r run h i).proper.skips e
 
 -- A permitted store lies in the memory.
 
@@ -223,65 +278,3 @@ store_in_memory k r run address h i e =
           let below = leb-true address run.bound both.1 in
           omega (arith, above, below, good.floor, good.top)
     ]
-
--- A unit unloads no module.
-
-quiet_store : (b : Bool) (i : Instr) (k : KernelState) (r : RunnerState) (time id : ℕ) → Contains (act_store b i k r).lines (line.Unload time id) → ⊥
-quiet_store true i k r time id c = contained_nowhere (line.Unload time id) c
-quiet_store false i k r time id c = contained_nowhere (line.Unload time id) c
-
-quiet_return : (b : Bool) (k : KernelState) (r : RunnerState) (time id : ℕ) → Contains (act_return b k r).lines (line.Unload time id) → ⊥
-quiet_return true k r time id c = contained_nowhere (line.Unload time id) c
-quiet_return false k r time id c = contained_nowhere (line.Unload time id) c
-
-quiet_call : (o : Option Service) (run : Running) (k : KernelState) (r : RunnerState) (time id : ℕ) → Contains (act_call o run k r).lines (line.Unload time id) → ⊥
-quiet_call (Some PostShort) run k r time id c = contained_nowhere (line.Unload time id) c
-quiet_call (Some Say) run k r time id c = elim (contained_cases _ [] (line.Unload time id) c) [ inl e ↦ absurd (cc) | inr none ↦ contained_nowhere (line.Unload time id) none ]
-quiet_call (Some MyId) run k r time id c = contained_nowhere (line.Unload time id) c
-quiet_call None run k r time id c = contained_nowhere (line.Unload time id) c
-
-quiet_at : (o : Option Unit) (run : Running) (k : KernelState) (r : RunnerState) (time id : ℕ) → Contains (act_at o run k r).lines (line.Unload time id) → ⊥
-quiet_at None run k r time id c = contained_nowhere (line.Unload time id) c
-quiet_at (Some (Plain i)) run k r time id c = contained_nowhere (line.Unload time id) c
-quiet_at (Some (Store i)) run k r time id c = quiet_store (may_store k run (store_address i k.processor)) i k r time id c
-quiet_at (Some (KernelCall n)) run k r time id c = quiet_call (service_of n) run k r time id c
-quiet_at (Some Return) run k r time id c = quiet_return (k.processor.sp == run.base) k r time id c
-quiet_at (Some _) run k r time id c = contained_nowhere (line.Unload time id) c
-
-quiet_running : (o : Option Running) (k : KernelState) (r : RunnerState) (time id : ℕ) → Contains (act_running o k r).lines (line.Unload time id) → ⊥
-quiet_running None k r time id c = contained_nowhere (line.Unload time id) c
-quiet_running (Some run) k r time id c = quiet_at (next_unit r run) run k r time id c
-
-pub act_unloads_nothing : (k : KernelState) (r : RunnerState) (time id : ℕ) → Contains (act k r).lines (line.Unload time id) → ⊥
-act_unloads_nothing k r time id c = quiet_running k.running k r time id c
-
--- A unit writes one line at most.
-
-few_store : (b : Bool) (i : Instr) (k : KernelState) (r : RunnerState) → length (act_store b i k r).lines ≤ 1
-few_store true i k r = omega arith
-few_store false i k r = omega arith
-
-few_return : (b : Bool) (k : KernelState) (r : RunnerState) → length (act_return b k r).lines ≤ 1
-few_return true k r = omega arith
-few_return false k r = omega arith
-
-few_call : (o : Option Service) (run : Running) (k : KernelState) (r : RunnerState) → length (act_call o run k r).lines ≤ 1
-few_call (Some PostShort) run k r = omega arith
-few_call (Some Say) run k r = omega arith
-few_call (Some MyId) run k r = omega arith
-few_call None run k r = omega arith
-
-few_at : (o : Option Unit) (run : Running) (k : KernelState) (r : RunnerState) → length (act_at o run k r).lines ≤ 1
-few_at None run k r = omega arith
-few_at (Some (Plain i)) run k r = omega arith
-few_at (Some (Store i)) run k r = few_store (may_store k run (store_address i k.processor)) i k r
-few_at (Some (KernelCall n)) run k r = few_call (service_of n) run k r
-few_at (Some Return) run k r = few_return (k.processor.sp == run.base) k r
-few_at (Some _) run k r = omega arith
-
-few_running : (o : Option Running) (k : KernelState) (r : RunnerState) → length (act_running o k r).lines ≤ 1
-few_running None k r = omega arith
-few_running (Some run) k r = few_at (next_unit r run) run k r
-
-pub act_lines : (k : KernelState) (r : RunnerState) → length (act k r).lines ≤ 1
-act_lines k r = few_running k.running k r

@@ -1,19 +1,24 @@
 -- The blocks of the heap under the loaded modules: who owns them, where they lie, and what a state block is.
-use Rattle.std.proofs.Common.{◌≡◌, ℕ, zero, suc, ◌+◌, ◌-◌, ◌*◌, ◌^◌, ◌<◌, ◌≤◌, inl, inr, ◌==◌, ◌&&◌, List, [], ◌∷◌, length, not, Bool, true, false, refl, sym, ◌∙◌, subst, arith, Option, Some, None, nat_lt}
+use Rattle.std.proofs.Common.{◌≡◌, ℕ, zero, suc, ◌+◌, ◌-◌, ◌*◌, ◌^◌, ◌<◌, ◌≤◌, inl, inr, ◌==◌, ◌&&◌, List, [], ◌∷◌, length, not, Bool, true, false, refl, sym, ap, ◌∙◌, subst, arith, Option, Some, None, nat_lt, if◌then◌else◌}
 use Rattle.std.specs.List.{AllByRecursion}
+use Rattle.std.specs.Prelude.{option_map}
+use Rattle.std.specs.Option.{option_map_or}
 use Rattle.std.proofs.lemmas.Bool.{cases_Bool, cond-true, cond-false, cond_both, eqb-false, or_cases, and_parts, not-true}
 use Rattle.std.proofs.lemmas.Option.{none-some, same_Some}
 use Rattle.std.proofs.lemmas.List.{length-append, length-take, length-drop, length-replicate}
-use Rattle.mote_layout.specs.Memory.{ram_start, ram_bytes, heap_start, red_zone_start, block_count, block_bytes, domain_count}
-use Rattle.mote_layout.specs.Blocks.{AreBlocks, AreBlocksFrom, block_address, covers, inserted, without_owner, owns}
-use Rattle.mote_layout.specs.Fit.{least_of, fit, blocks_for}
+use Rattle.mote_layout.specs.Memory.{ram_start, ram_bytes, heap_start, red_zone_start, block_bytes, domain_count}
+use Rattle.mote_layout.specs.Blocks.{AreBlocks, AreBlocksFrom, block_address, covers, inserted, without, without_owner, given_to, handed_over, owns}
+use Rattle.mote_layout.specs.Fit.{IsLeastFit, least_of, fit, blocks_for}
+use Rattle.mote_layout.specs.Requests.{address_for, place_for, segment_for, served}
 use Rattle.mote_layout.specs.declared.segment.Segment.{Segment}
 use Rattle.mote_layout.proofs.BlockLists.{AreBlocks-inserted}
 use Rattle.mote_layout.proofs.Owners.{covers-true}
 use Rattle.mote_layout.proofs.LeastFit.{fit-some}
 use Rattle.domain_model.specs.Bytes.{AreBytes}
 use Rattle.domain_model.specs.State.{Loaded, KernelState, with_zeros}
-use Rattle.domain_model.specs.Turn.{in_use, free_domain, Given, given_at, given_where, given, without_domain}
+use Rattle.domain_model.specs.Modules.{in_use, free_domain, without_domain}
+use Rattle.domain_model.specs.Given.{Given, given_at, given, nothing_given}
+use Rattle.domain_model.specs.Turn.{state_where, state_block}
 use Rattle.domain_model.specs.Good.{AreOwned}
 use Rattle.domain_model.proofs.ByteLists.{zeros_bytes}
 use Rattle.domain_model.proofs.Kept.{each_weaker, each_filter}
@@ -52,10 +57,6 @@ free_domain_is_free modules domain e =
     let found = least_of_within (λ d. not (in_use modules d)) 0 domain_count domain e in
     (omega (arith, found.0), not-true (in_use modules domain) found.1)
 
--- blocks that fit end within the heap
-pub fit_within : (blocks : List Segment) (count first : ℕ) → 1 ≤ count → fit blocks count ≡ Some first → first + count ≤ block_count
-fit_within blocks count first some e = ((fit-some blocks count first some).0 e).fits.0
-
 -- a request for bytes is one for blocks
 pub some_blocks : (bytes : ℕ) → (bytes == 0) ≡ false → 1 ≤ blocks_for bytes
 some_blocks bytes h = let ne = eqb-false bytes 0 h in omega (arith, ne)
@@ -81,32 +82,64 @@ pub record GoodGiven (k : KernelState) (domain : ℕ) (g : Given) : Type 0 where
   pub bytes : AreBytes k.processor.memory → AreBytes g.memory
   pub address : g.address < 2 ^ 16
 
-given_at_good : (o : Option ℕ) (k : KernelState) (domain count : ℕ) (g : Given) → AreBlocks k.blocks → length k.processor.memory ≡ ram_bytes → domain < domain_count → 1 ≤ count → fit k.blocks count ≡ o → given_at o k domain count ≡ Some g → GoodGiven k domain g
-given_at_good None k domain count g blocks memory below some e h = absurd (none-some g h)
-given_at_good (Some first) k domain count g blocks memory below some e h =
-    let least = (fit-some k.blocks count first some).0 e in
+-- where a request has an address, it is that of the least fit
+pub record IsPlaced (ss : List Segment) (size address : ℕ) : Type 0 where
+  pub block : ℕ
+  pub place : place_for ss size ≡ Some block
+  pub some : 1 ≤ blocks_for size
+  pub least : IsLeastFit ss (blocks_for size) block
+  pub address_of : block_address block ≡ address
+
+placed_at : (b : Bool) (ss : List Segment) (size block : ℕ) → (size == 0) ≡ b → (if b then None else fit ss (blocks_for size)) ≡ Some block → (1 ≤ blocks_for size) × IsLeastFit ss (blocks_for size) block
+placed_at true ss size block e h = absurd (none-some block h)
+placed_at false ss size block e h = let some = some_blocks size e in (some, (fit-some ss (blocks_for size) block some).0 h)
+
+addressed : (o : Option ℕ) (ss : List Segment) (size address : ℕ) → place_for ss size ≡ o → option_map (λ block. block_address block) o ≡ Some address → IsPlaced ss size address
+addressed None ss size address e h = absurd (none-some address h)
+addressed (Some block) ss size address e h =
+    let at = placed_at (size == 0) ss size block refl e in
+    record { block = block; place = e; some = at.0; least = at.1; address_of = same_Some (block_address block) address h }
+
+pub is_placed : (ss : List Segment) (size address : ℕ) → address_for ss size ≡ Some address → IsPlaced ss size address
+is_placed ss size address h = addressed (place_for ss size) ss size address refl h
+
+given_at_good : (o : Option ℕ) (k : KernelState) (domain size : ℕ) (g : Given) → AreBlocks k.blocks → length k.processor.memory ≡ ram_bytes → domain < domain_count → address_for k.blocks size ≡ o → given_at o k domain size ≡ Some g → GoodGiven k domain g
+given_at_good None k domain size g blocks memory below e h = absurd (none-some g h)
+given_at_good (Some address) k domain size g blocks memory below e h =
+    let at = is_placed k.blocks size address e in
+    let first = at.block in
+    let least = at.least in
+    let start = at.address_of in
+    let count = blocks_for size in
+    let got : Segment = segment_for domain size first in
+    let there : served domain size k.blocks ≡ inserted got k.blocks
+    = ap (λ (o : Option ℕ). option_map_or (λ block. inserted (segment_for domain size block) k.blocks) o k.blocks) at.place in
     let made : Given = record {
-      blocks = inserted (record { first = first; count = count; owner = domain }) k.blocks;
-      memory = with_zeros k.processor.memory (block_address first - ram_start) (block_bytes * count);
-      address = block_address first;
+      blocks = served domain size k.blocks;
+      memory = with_zeros k.processor.memory (address - ram_start) (block_bytes * count);
+      address = address;
     } in
     subst (GoodGiven k domain) (same_Some made g h) (record {
-      blocks = AreBlocks-inserted (record { first = first; count = count; owner = domain }) k.blocks some (omega (arith, below)) least.fits blocks;
-      owners = λ modules owned own. each_inserted (λ (b : Segment). in_use modules b.owner ≡ true) (record { first = first; count = count; owner = domain }) k.blocks own owned;
-      memory = zeros_length k.processor.memory (block_address first - ram_start) (block_bytes * count) (omega (arith, memory, least.fits.0));
-      bytes = zeros_bytes k.processor.memory (block_address first - ram_start) (block_bytes * count);
-      address = omega (arith, least.fits.0);
+      blocks = subst AreBlocks (sym there) (AreBlocks-inserted got k.blocks at.some (omega (arith, below)) least.fits blocks);
+      owners = λ modules owned own.
+          subst (AreOwned modules) (sym there)
+          (each_inserted (λ (b : Segment). in_use modules b.owner ≡ true) got k.blocks own owned);
+      memory = zeros_length k.processor.memory (address - ram_start) (block_bytes * count) (omega (arith, memory, start, least.fits.0));
+      bytes = zeros_bytes k.processor.memory (address - ram_start) (block_bytes * count);
+      address = omega (arith, start, least.fits.0);
     })
 
-given_where_good : (b : Bool) (k : KernelState) (domain size : ℕ) (g : Given) → AreBlocks k.blocks → length k.processor.memory ≡ ram_bytes → domain < domain_count → (size == 0) ≡ b → given_where b k domain size ≡ Some g → GoodGiven k domain g
-given_where_good true k domain size g blocks memory below e h =
-    let made : Given = record { blocks = k.blocks; memory = k.processor.memory; address = 0 } in
-    subst (GoodGiven k domain) (same_Some made g h) (record { blocks = blocks; owners = λ modules owned own. owned; memory = refl; bytes = λ h. h; address = omega arith })
-given_where_good false k domain size g blocks memory below e h =
-    given_at_good (fit k.blocks (blocks_for size)) k domain (blocks_for size) g blocks memory below (some_blocks size e) refl h
-
 pub given_good : (k : KernelState) (domain size : ℕ) (g : Given) → AreBlocks k.blocks → length k.processor.memory ≡ ram_bytes → domain < domain_count → given k domain size ≡ Some g → GoodGiven k domain g
-given_good k domain size g blocks memory below h = given_where_good (size == 0) k domain size g blocks memory below refl h
+given_good k domain size g blocks memory below h =
+    given_at_good (address_for k.blocks size) k domain size g blocks memory below refl h
+
+state_where_good : (b : Bool) (k : KernelState) (domain size : ℕ) (g : Given) → AreBlocks k.blocks → length k.processor.memory ≡ ram_bytes → domain < domain_count → state_where b k domain size ≡ Some g → GoodGiven k domain g
+state_where_good true k domain size g blocks memory below h =
+    subst (GoodGiven k domain) (same_Some (nothing_given k) g h) (record { blocks = blocks; owners = λ modules owned own. owned; memory = refl; bytes = λ h. h; address = omega arith })
+state_where_good false k domain size g blocks memory below h = given_good k domain size g blocks memory below h
+
+pub state_block_good : (k : KernelState) (domain size : ℕ) (g : Given) → AreBlocks k.blocks → length k.processor.memory ≡ ram_bytes → domain < domain_count → state_block k domain size ≡ Some g → GoodGiven k domain g
+state_block_good k domain size g blocks memory below h = state_where_good (size == 0) k domain size g blocks memory below h
 
 -- a module comes in: the old blocks keep their owners
 pub owned_more : (modules more : List Loaded) → ((domain : ℕ) → in_use modules domain ≡ true → in_use more domain ≡ true) → (blocks : List Segment) → AreOwned modules blocks → AreOwned more blocks
@@ -119,3 +152,16 @@ owned_without modules gone blocks h =
     each_filter (λ (b : Segment). in_use modules b.owner ≡ true) (λ (b : Segment). in_use (without_domain gone modules) b.owner ≡ true)
     (λ (b : Segment). not (b.owner == gone))
     (λ b kept e. in_use_without modules gone b.owner (other_domain b.owner gone kept) e) blocks h
+
+-- a block is freed, or given to a loaded domain
+pub owned_fewer : (modules : List Loaded) (block : ℕ) (blocks : List Segment) → AreOwned modules blocks → AreOwned modules (without block blocks)
+owned_fewer modules block blocks h =
+    each_filter (λ (b : Segment). in_use modules b.owner ≡ true) (λ (b : Segment). in_use modules b.owner ≡ true)
+    (λ (b : Segment). not (b.first == block)) (λ b kept e. e) blocks h
+
+pub owned_handed : (modules : List Loaded) (block owner : ℕ) (blocks : List Segment) → in_use modules owner ≡ true → AreOwned modules blocks → AreOwned modules (handed_over block owner blocks)
+owned_handed modules block owner [] used h = tt
+owned_handed modules block owner (s ∷ ss) used h = (
+  cond_both (s.first == block) (given_to owner s) s (λ (b : Segment). in_use modules b.owner ≡ true) (λ there. used) (λ other. h.0),
+  owned_handed modules block owner ss used h.1,
+)

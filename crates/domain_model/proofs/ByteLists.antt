@@ -1,22 +1,17 @@
 -- Bytes stay bytes: each change of registers and memory that a turn makes puts bytes there.
-use Rattle.std.proofs.Common.{ℕ, zero, suc, ◌+◌, ◌-◌, ◌<◌, ◌≤◌, ◌^◌, ◌==◌, inl, inr, Bool, List, [], ◌∷◌, ◌++◌, take, drop, sym, subst, arith}
+use Rattle.std.proofs.Common.{ℕ, zero, suc, ◌+◌, ◌<◌, ◌≤◌, ◌^◌, ◌==◌, inl, inr, Bool, List, [], ◌∷◌, ◌++◌, take, drop, sym, subst, arith}
 use Rattle.std.specs.Prelude.{replicate, slice_set}
-use Rattle.std.proofs.lemmas.Bool.{cases_Bool}
+use Rattle.std.proofs.lemmas.Bool.{cases_Bool, cond_both}
 use Rattle.std.proofs.lemmas.List.{get_or-drop}
 use Rattle.std.specs.List.{AllByRecursion}
-use Rattle.avr_isa.specs.declared.instruction.Instr.{Instr}
-use Rattle.avr_isa.specs.declared.instruction.Instr.TheVariants.{Ldi, Mov, StX}
 use Rattle.mote_layout.specs.Memory.{register_count, ram_start, message_frame, message_frame_bytes, stack_top}
-use Rattle.unit_code.specs.declared.unit.Unit.TheVariants.{Plain, Store}
 use Rattle.avr_machine.specs.Processor.{low, high}
 use Rattle.domain_model.specs.Bytes.{AreBytes}
-use Rattle.domain_model.specs.Units.{IsBuilt}
-use Rattle.domain_model.specs.State.{Processor, Message, Loaded, RunnerState, register, with_register, pair, with_pair, with_zeros, frame_of, dispatched}
-use Rattle.domain_model.specs.Act.{id_at, plain_effect, store_address}
+use Rattle.domain_model.specs.State.{Processor, Message, Loaded, RunnerState, payload_address, pair, with_pair, with_zeros, frame_of, dispatched}
+use Rattle.domain_model.specs.Modules.{id_at}
 use Rattle.domain_model.specs.Free.{SameBut}
 use Rattle.domain_model.specs.Turn.{kernel_message}
 use Rattle.domain_model.specs.Good.{GoodProcessor, GoodModule, IsFramed}
-use Rattle.domain_model.proofs.InstructionLaws.{ldi_effect, mov_effect, stx_effect}
 
 -- Lists of bytes.
 
@@ -43,7 +38,7 @@ bytes_take (suc n) (x ∷ xs) h = bytes_cons x (take n xs) (h zero) (bytes_take 
 bytes_drop : (n : ℕ) (xs : List ℕ) → AreBytes xs → AreBytes (drop n xs)
 bytes_drop n xs h i = subst (λ (b : ℕ). b < 256) (sym (get_or-drop n xs i 0)) (h (n + i))
 
-bytes_set : (xs : List ℕ) (place b : ℕ) → b < 256 → AreBytes xs → AreBytes (slice_set xs place b)
+pub bytes_set : (xs : List ℕ) (place b : ℕ) → b < 256 → AreBytes xs → AreBytes (slice_set xs place b)
 bytes_set [] place b below h = h
 bytes_set (x ∷ xs) zero b below h = bytes_cons b xs below (λ i. h (suc i))
 bytes_set (x ∷ xs) (suc place) b below h = bytes_cons x (slice_set xs place b) (h zero) (bytes_set xs place b below (λ i. h (suc i)))
@@ -63,40 +58,27 @@ bytes_kept free want got same h i =
 
 -- Words as two bytes.
 
-low_byte : (w : ℕ) → low w < 256
+pub low_byte : (w : ℕ) → low w < 256
 low_byte w = omega arith
 
-high_byte : (w : ℕ) → w < 2 ^ 16 → high w < 256
+pub high_byte : (w : ℕ) → w < 2 ^ 16 → high w < 256
 high_byte w small = omega (arith, small)
 
--- The processor's registers and memory.
+-- The processor's registers, memory and SREG.
 pub record HasBytes (p : Processor) : Type 0 where
   pub registers : AreBytes p.registers
   pub memory : AreBytes p.memory
+  pub sreg : p.sreg < 256
 
 pub good_bytes : (p : Processor) → GoodProcessor p → HasBytes p
-good_bytes p h = record { registers = h.register_bytes; memory = h.memory_bytes }
+good_bytes p h = record { registers = h.register_bytes; memory = h.memory_bytes; sreg = h.sreg_byte }
 
 pub pair_bytes : (p : Processor) (d w : ℕ) → w < 2 ^ 16 → HasBytes p → HasBytes (with_pair p d w)
 pair_bytes p d w small h = record {
   registers = bytes_set (slice_set p.registers d (low w)) (d + 1) (high w) (high_byte w small) (bytes_set p.registers d (low w) (low_byte w) h.registers);
   memory = h.memory;
+  sreg = h.sreg;
 }
-
-register_bytes : (p : Processor) (d v : ℕ) → v < 256 → HasBytes p → HasBytes (with_register p d v)
-register_bytes p d v below h = record { registers = bytes_set p.registers d v below h.registers; memory = h.memory }
-
-pub plain_bytes : (i : Instr) (p : Processor) → IsBuilt (Plain i) → HasBytes p → HasBytes (plain_effect i p)
-plain_bytes (Ldi d k) p built h = subst HasBytes (sym (ldi_effect d k p)) (register_bytes p d k built.1 h)
-plain_bytes (Mov d r) p built h = subst HasBytes (sym (mov_effect d r p)) (register_bytes p d (register p r) (h.registers r) h)
-plain_bytes _ p built h = absurd built
-
-pub store_bytes : (i : Instr) (p : Processor) → IsBuilt (Store i) → HasBytes p → HasBytes (plain_effect i p)
-store_bytes (StX r) p built h = subst HasBytes (sym (stx_effect r p)) (record {
-  registers = h.registers;
-  memory = bytes_set p.memory (store_address (StX r) p - ram_start) (register p r) (h.registers r) h.memory;
-})
-store_bytes _ p built h = absurd built
 
 -- Messages, whose numbers fit the message frame.
 
@@ -107,17 +89,23 @@ kernel_framed id sort small kind = record {
   sort = kind;
   byte = omega arith;
   word = omega arith;
+  len = omega arith;
+  address = omega arith;
 }
 
 frame_bytes : (m : Message) → IsFramed m → AreBytes (frame_of m)
 frame_bytes m h zero = h.sort
 frame_bytes m h (suc zero) = h.from
 frame_bytes m h (suc (suc zero)) = h.to
-frame_bytes m h (suc (suc (suc zero))) = omega arith
+frame_bytes m h (suc (suc (suc zero))) = cond_both m.long 1 0 (λ n. n < 256) (λ long. omega arith) (λ short. omega arith)
 frame_bytes m h (suc (suc (suc (suc zero)))) = h.byte
 frame_bytes m h (suc (suc (suc (suc (suc zero))))) = low_byte m.word
 frame_bytes m h (suc (suc (suc (suc (suc (suc zero)))))) = high_byte m.word h.word
-frame_bytes m h (suc (suc (suc (suc (suc (suc (suc i))))))) = bytes_zeros 9 i
+frame_bytes m h (suc (suc (suc (suc (suc (suc (suc zero))))))) = low_byte m.len
+frame_bytes m h (suc (suc (suc (suc (suc (suc (suc (suc zero)))))))) = high_byte m.len h.len
+frame_bytes m h (suc (suc (suc (suc (suc (suc (suc (suc (suc zero))))))))) = low_byte (payload_address m.load)
+frame_bytes m h (suc (suc (suc (suc (suc (suc (suc (suc (suc (suc zero)))))))))) = high_byte (payload_address m.load) h.address
+frame_bytes m h (suc (suc (suc (suc (suc (suc (suc (suc (suc (suc (suc i))))))))))) = bytes_zeros 5 i
 
 pub dispatched_bytes : (p : Processor) (state : ℕ) (m : Message) → state < 2 ^ 16 → IsFramed m → AreBytes p.memory → HasBytes (dispatched p state m)
 dispatched_bytes p state m small framed h =
@@ -130,6 +118,7 @@ dispatched_bytes p state m small framed h =
     pair_bytes (with_pair clear 22 message_frame) 24 state small (pair_bytes clear 22 message_frame (omega arith) (record {
       registers = bytes_zeros register_count;
       memory = bytes_append (frame_of m) (drop message_frame_bytes p.memory) (frame_bytes m framed) (bytes_drop message_frame_bytes p.memory h);
+      sreg = omega arith;
     }))
 
 -- A pair of registers is a word.

@@ -10,8 +10,8 @@ use Rattle.domain_model.specs.declared.fault.UnitEnd.TheVariants.{On, Over, Faul
 use Rattle.domain_model.specs.declared.line.TraceLine.{TraceLine}
 use Rattle.domain_model.specs.declared.line.TraceLine.TheVariants as line
 use Rattle.domain_model.specs.State.{Loaded, Message, KernelState, RunnerState}
-use Rattle.domain_model.specs.Act.{id_at}
-use Rattle.domain_model.specs.Turn.{module_named, without_domain, emptied, with_none_ending, purged, handler_ended, close_module, close, settled, faulted}
+use Rattle.domain_model.specs.Modules.{id_at, module_named, without_domain}
+use Rattle.domain_model.specs.Turn.{emptied, with_none_ending, purged, handler_ended, close_module, close, settled, faulted}
 use Rattle.domain_model.specs.Good.{GoodMachine, GoodEnding}
 use Rattle.domain_model.proofs.Kept.{filter_shorter}
 use Rattle.domain_model.proofs.ModuleLaws.{found, found_id, named, loaded_named, named_without, id_at_loaded, row_of_domain}

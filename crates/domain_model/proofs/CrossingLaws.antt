@@ -12,8 +12,10 @@ use Rattle.domain_model.specs.declared.handler.Running.{Running}
 use Rattle.domain_model.specs.declared.line.TraceLine.{TraceLine}
 use Rattle.domain_model.specs.Prepared.{Module, Prep}
 use Rattle.domain_model.specs.State.{Loaded, Message, KernelState, RunnerState, State}
-use Rattle.domain_model.specs.Act.{Acted, is_loaded}
-use Rattle.domain_model.specs.Turn.{Given, given, free_domain, module_named, handler_ended, unload_module, deliver, dispatch, faulted, watchdog, seated, refused_file, init_to, final_to, Moved, refused, came, load_image, load_prepared, load_new, load_in, load_given, made_of, settled, counted, choice, made, May, Turn}
+use Rattle.domain_model.specs.Modules.{is_loaded, free_domain, module_named}
+use Rattle.domain_model.specs.Given.{Given}
+use Rattle.domain_model.specs.Act.{Acted}
+use Rattle.domain_model.specs.Turn.{state_block, handler_ended, unload_module, deliver, dispatch, faulted, watchdog, seated, refused_file, init_to, final_to, Moved, refused, came, load_image, load_prepared, load_new, load_in, load_given, made_of, settled, counted, choice, made, May, Turn}
 use Rattle.domain_model.specs.Laws.{CrossesBy, Crosses}
 use Rattle.domain_model.specs.Facts.{Facts}
 use Rattle.domain_model.proofs.ChoiceLaws.{choice_facts}
@@ -52,7 +54,7 @@ given_starts (Some g) s m domain image k r out = record {
 
 in_starts : (o : Option ℕ) (s : State) (m : Module) (image : ℕ) (k : KernelState) (r : RunnerState) → k.running ≡ None → Starts s (load_in o m image k r)
 in_starts None s m image k r out = not_started s (refused 5 image k r) out
-in_starts (Some domain) s m image k r out = given_starts (given k domain m.state_size) s m domain image k r out
+in_starts (Some domain) s m image k r out = given_starts (state_block k domain m.state_size) s m domain image k r out
 
 new_starts : (b : Bool) (s : State) (m : Module) (image : ℕ) (k : KernelState) (r : RunnerState) → k.running ≡ None → Starts s (load_new b m image k r)
 new_starts true s m image k r out = not_started s (refused 4 image k r) out

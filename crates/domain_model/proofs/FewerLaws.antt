@@ -13,8 +13,10 @@ use Rattle.domain_model.specs.declared.event.Turned.TheVariants.{More}
 use Rattle.domain_model.specs.declared.line.TraceLine.{TraceLine}
 use Rattle.domain_model.specs.Prepared.{Module, Prep}
 use Rattle.domain_model.specs.State.{Loaded, Message, KernelState, RunnerState, State}
-use Rattle.domain_model.specs.Act.{Acted, act, is_loaded}
-use Rattle.domain_model.specs.Turn.{Given, given, free_domain, module_named, load_image, load_prepared, load_new, load_in, load_given, unload_module, deliver, dispatch, made, came, settled, faulted, watchdog, choice, May, Turn}
+use Rattle.domain_model.specs.Modules.{is_loaded, free_domain, module_named}
+use Rattle.domain_model.specs.Given.{Given}
+use Rattle.domain_model.specs.Act.{Acted, act}
+use Rattle.domain_model.specs.Turn.{state_block, load_image, load_prepared, load_new, load_in, load_given, unload_module, deliver, dispatch, made, came, settled, faulted, watchdog, choice, May, Turn}
 use Rattle.domain_model.specs.Good.{Good}
 use Rattle.domain_model.specs.Facts.{Facts}
 use Rattle.domain_model.specs.Remaining.{one_if, is_late, goes_on, remaining}
@@ -50,7 +52,7 @@ given_queues (Some g) m domain image k r = refl
 
 in_queues : (o : Option ℕ) (m : Module) (image : ℕ) (k : KernelState) (r : RunnerState) → (load_in o m image k r).kernel.queues ≡ k.queues
 in_queues None m image k r = refl
-in_queues (Some domain) m image k r = given_queues (given k domain m.state_size) m domain image k r
+in_queues (Some domain) m image k r = given_queues (state_block k domain m.state_size) m domain image k r
 
 new_queues : (b : Bool) (m : Module) (image : ℕ) (k : KernelState) (r : RunnerState) → (load_new b m image k r).kernel.queues ≡ k.queues
 new_queues true m image k r = refl

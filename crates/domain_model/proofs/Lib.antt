@@ -6,9 +6,13 @@ pub mod ModuleLaws
 pub mod BlockLaws
 pub mod UnitLaws
 pub mod InstructionLaws
+pub mod WriteLaws
+pub mod StackLaws
 pub mod ActLaws
 pub mod MachineLaws
+pub mod UnitsKept
 pub mod CloseLaws
+pub mod OwningLaws
 pub mod TurnLaws
 pub mod FewerLaws
 pub mod StartLaws

@@ -1,15 +1,9 @@
 -- Kernel and runner stay good: each change of the two on its own.
-use Rattle.std.proofs.Common.{◌≡◌, ◌≢◌, ◌⊎◌, inl, inr, ℕ, ◌+◌, ◌^◌, ◌<◌, ◌≤◌, ◌==◌, nat_lt, not, List, [], ◌∷◌, ◌++◌, length, drop, Bool, true, false, refl, sym, ap, ◌∙◌, subst, arith, Option, Some, None, Ok, Err, slice_get}
 use Rattle.std.specs.List.{AllByRecursion, Contains}
-use Rattle.std.specs.Prelude.{slice_index_or, slice_set}
-use Rattle.std.proofs.lemmas.Bool.{eqb-false, or_parts, cond_both, ltb-true, not-true}
+use Rattle.std.specs.Prelude.{slice_index_or}
 use Rattle.std.proofs.lemmas.List.{length-set, length-append, length-drop, get_or-set_same, get_or-set_other}
-use Rattle.avr_isa.specs.declared.instruction.Instr.{Instr}
 use Rattle.mote_base.specs.Messages.{Lists, queue_limit, list_of, in_order, front, without_front, appended, names, unnamed}
-use Rattle.mote_layout.specs.Memory.{domain_count, ram_bytes, message_frame_bytes, stack_top}
-use Rattle.mote_layout.proofs.BlockLists.{AreBlocks-without_owner}
 use Rattle.unit_code.specs.declared.unit.Unit.{Unit}
-use Rattle.unit_code.specs.declared.unit.Unit.TheVariants.{Plain, Store, KernelCall, Return}
 use Rattle.domain_model.specs.declared.handler.Running.{Running}
 use Rattle.domain_model.specs.declared.event.LoaderOrder.{LoaderOrder}
 use Rattle.domain_model.specs.declared.event.LoaderOrder.TheVariants as what
@@ -17,20 +11,25 @@ use Rattle.domain_model.specs.declared.fault.FaultNote.{FaultNote}
 use Rattle.domain_model.specs.declared.fault.UnitEnd.{UnitEnd}
 use Rattle.domain_model.specs.declared.fault.UnitEnd.TheVariants.{On, Over, Fault}
 use Rattle.domain_model.specs.declared.line.TraceLine.{TraceLine}
-use Rattle.avr_machine.specs.Processor.{low, high}
 use Rattle.domain_model.specs.Bytes.{AreBytes}
 use Rattle.domain_model.specs.Prepared.{Module, Prep}
-use Rattle.domain_model.specs.Units.{IsBuilt, AreProper, Service, PostShort, Say, MyId, service_of}
-use Rattle.domain_model.specs.State.{Loaded, Processor, Message, radio, KernelState, RunnerState, with_processor, with_pair, frame_of, dispatched}
-use Rattle.domain_model.specs.Act.{Acted, act, act_running, act_at, act_store, act_return, act_call, answered, id_at, is_loaded, message_of, post_where, post_to, plain_effect, store_address, may_store, bank, next_unit}
-use Rattle.domain_model.specs.Free.{SameKernel, with_memory, unit_free, UnitStep}
-use Rattle.domain_model.specs.Turn.{in_use, module_named, without_domain, free_domain, Given, given, seated, init_to, final_to, Moved, loaded, load_given, load_in, load_new, load_prepared, load_image, unload_module, deliver, dispatch, begun, came, with_none_ending, close_module, close, settled, faulted, purged, handler_ended, at_clock, placed, emptied, entered}
+use Rattle.domain_model.specs.Modules.{id_at, is_loaded, in_use, module_named, without_domain, free_domain}
+use Rattle.domain_model.specs.Turn.{state_block, seated, init_to, final_to, Moved, loaded, load_given, load_in, load_new, load_prepared, load_image, unload_module, deliver, dispatch, begun, came, with_none_ending, close_module, close, settled, faulted, purged, handler_ended, at_clock, placed, emptied, entered}
 use Rattle.domain_model.specs.Good.{GoodProcessor, GoodModule, AreEntered, GoodMachine, GoodHandler, GoodRunning, GoodEnding, GoodQueues, IsFramed, IsKnown, AreDistinct, GoodImage, IsGoodImage}
 use Rattle.domain_model.proofs.Kept.{each_weaker, each_filter, each_push, each_at, each_drop, each_contained, each_either, filter_shorter}
-use Rattle.domain_model.proofs.ModuleLaws.{found, found_id, named, loaded_named, contained_loaded, contained_in_use, id_at_loaded, id_at_row, is_loaded_old, is_loaded_without, in_use_old, in_use_new, is_loaded_new, other_domain, all_apart, distinct_push, distinct_filter}
-use Rattle.domain_model.proofs.ByteLists.{HasBytes, bytes_kept, good_bytes, pair_bytes, plain_bytes, store_bytes, kernel_framed, dispatched_bytes, pair_word, id_byte}
-use Rattle.domain_model.proofs.BlockLaws.{GoodGiven, given_good, free_domain_is_free, owned_more, owned_without}
-use Rattle.domain_model.proofs.ActLaws.{with_both, AreAlike, plain_alike, store_alike, running_good, unit_behind, unit_is_built}
+use Rattle.domain_model.proofs.ModuleLaws.{found, found_id, named, loaded_named, contained_loaded, contained_in_use, id_at_row, is_loaded_old, is_loaded_without, in_use_old, in_use_new, is_loaded_new, other_domain, all_apart, distinct_push, distinct_filter}
+use Rattle.domain_model.proofs.BlockLaws.{GoodGiven, state_block_good, free_domain_is_free, owned_more, owned_without}
+use Rattle.std.proofs.lemmas.Bool.{eqb-false, or_parts, cond_both, ltb-true, not-true}
+use Rattle.std.proofs.Common.{◌≡◌, ◌≢◌, ◌⊎◌, inl, inr, ℕ, ◌^◌, ◌<◌, ◌≤◌, ◌==◌, nat_lt, not, List, [], ◌∷◌, ◌++◌, length, drop, Bool, true, false, refl, sym, ap, ◌∙◌, subst, arith, Option, Some, None, Ok, Err, slice_get}
+use Rattle.mote_layout.specs.Memory.{domain_count, ram_bytes, floor, message_frame_bytes, stack_top}
+use Rattle.mote_layout.proofs.BlockLists.{AreBlocks-without_owner}
+use Rattle.domain_model.specs.Units.{AreProper}
+use Rattle.domain_model.specs.State.{Loaded, Processor, Message, radio, KernelState, RunnerState, frame_of, dispatched}
+use Rattle.domain_model.specs.Act.{bank}
+use Rattle.domain_model.specs.Given.{Given}
+use Rattle.domain_model.specs.Free.{SameKernel, with_memory}
+use Rattle.domain_model.proofs.ByteLists.{bytes_kept, kernel_framed, dispatched_bytes}
+use Rattle.domain_model.proofs.ActLaws.{running_good}
 
 -- The banks.
 
@@ -55,18 +54,10 @@ module_kept r s m e h = record {
 pub same_banks : (r s : RunnerState) → s.banks ≡ r.banks → (domain : ℕ) → bank s domain ≡ bank r domain
 same_banks r s e domain = ap (λ (bs : List (List Unit)). slice_index_or bs domain []) e
 
-modules_kept : (r s : RunnerState) → s.banks ≡ r.banks → (ms : List Loaded) → AllByRecursion (GoodModule r) ms → AllByRecursion (GoodModule s) ms
+pub modules_kept : (r s : RunnerState) → s.banks ≡ r.banks → (ms : List Loaded) → AllByRecursion (GoodModule r) ms → AllByRecursion (GoodModule s) ms
 modules_kept r s e ms h = each_weaker (GoodModule r) (GoodModule s) (λ m. module_kept r s m (same_banks r s e m.domain)) ms h
 
 -- A change of the processor, the clock or the next unit.
-
-alike_good : (p q : Processor) → AreAlike p q → HasBytes q → GoodProcessor p → GoodProcessor q
-alike_good p q a bytes h = record {
-  registers = a.registers ∙ h.registers;
-  memory = a.memory ∙ h.memory;
-  register_bytes = bytes.registers;
-  memory_bytes = bytes.memory;
-}
 
 kept_good : (k n : KernelState) (r s : RunnerState) → n.modules ≡ k.modules → n.blocks ≡ k.blocks → n.queues ≡ k.queues → s.banks ≡ r.banks → GoodProcessor n.processor → GoodHandler n s n.running → GoodMachine k r → GoodMachine n s
 kept_good k n r s modules blocks queues banks processor handler h = record {
@@ -80,7 +71,7 @@ kept_good k n r s modules blocks queues banks processor handler h = record {
   handler = handler;
 }
 
-running_kept : (k n : KernelState) (r s : RunnerState) (run : Running) → n.processor.sp ≡ k.processor.sp → n.modules ≡ k.modules → s.unit < length (bank s run.domain) → GoodRunning k r run → GoodRunning n s run
+pub running_kept : (k n : KernelState) (r s : RunnerState) (run : Running) → n.processor.sp ≡ k.processor.sp → n.modules ≡ k.modules → s.unit < length (bank s run.domain) → GoodRunning k r run → GoodRunning n s run
 running_kept k n r s run sp modules unit h = record {
   loaded = subst (λ (ms : List Loaded). in_use ms run.domain ≡ true) (sym modules) h.loaded;
   unit = unit;
@@ -90,8 +81,19 @@ running_kept k n r s run sp modules unit h = record {
   top = h.top;
 }
 
+-- the stack pointer moved between the floor and the base
+pub running_moved : (k n : KernelState) (r s : RunnerState) (run : Running) → floor ≤ n.processor.sp → n.processor.sp ≤ run.base → n.modules ≡ k.modules → s.unit < length (bank s run.domain) → GoodRunning k r run → GoodRunning n s run
+running_moved k n r s run above below modules unit h = record {
+  loaded = subst (λ (ms : List Loaded). in_use ms run.domain ≡ true) (sym modules) h.loaded;
+  unit = unit;
+  floor = above;
+  base = below;
+  bound = h.bound;
+  top = h.top;
+}
+
 -- the module that ends still runs
-ending_kept : (k n : KernelState) (run : Running) (o : Option ℕ) → n.modules ≡ k.modules → GoodEnding k run o → GoodEnding n run o
+pub ending_kept : (k n : KernelState) (run : Running) (o : Option ℕ) → n.modules ≡ k.modules → GoodEnding k run o → GoodEnding n run o
 ending_kept k n run None modules h = tt
 ending_kept k n run (Some id) modules h = h ∙ ap (λ (ms : List Loaded). id_at ms run.domain) (sym modules)
 
@@ -110,7 +112,7 @@ clock_good k r now h =
 
 pub memory_good : (k : KernelState) (r : RunnerState) (memory : List ℕ) → length memory ≡ length k.processor.memory → AreBytes memory → GoodMachine k r → GoodMachine (with_memory k memory) r
 memory_good k r memory same bytes h =
-    kept_good k (with_memory k memory) r r refl refl refl refl (record { registers = h.processor.registers; memory = same ∙ h.processor.memory; register_bytes = h.processor.register_bytes; memory_bytes = bytes })
+    kept_good k (with_memory k memory) r r refl refl refl refl (record { registers = h.processor.registers; memory = same ∙ h.processor.memory; register_bytes = h.processor.register_bytes; memory_bytes = bytes; sreg_byte = h.processor.sreg_byte })
     (handler_kept k.running k (with_memory k memory) r refl refl refl refl h.handler) h
 
 -- whatever the free bytes became
@@ -127,7 +129,7 @@ ended_good k r h = kept_good k (with_none_ending (handler_ended k)) r r refl ref
 
 -- what is known stays so where more ids are loaded
 known_more : (modules more : List Loaded) → ((id : ℕ) → is_loaded modules id ≡ true → is_loaded more id ≡ true) → (m : Message) → IsKnown modules m → IsKnown more m
-known_more modules more f m h = record { receiver = f m.to h.receiver; sender = still h.sender; framed = h.framed }
+known_more modules more f m h = record { receiver = f m.to h.receiver; sender = still h.sender; framed = h.framed; load = h.load }
   where
     still : ((m.from ≡ 0) ⊎ (m.from ≡ radio)) ⊎ (is_loaded modules m.from ≡ true) → ((m.from ≡ 0) ⊎ (m.from ≡ radio)) ⊎ (is_loaded more m.from ≡ true)
     still (inl other) = inl other
@@ -148,6 +150,7 @@ known_without modules row d c m kept h =
       receiver = is_loaded_without modules row m.to d c (eqb-false m.to row.face.id parts.1) h.receiver;
       sender = still (eqb-false m.from row.face.id parts.0) h.sender;
       framed = h.framed;
+      load = h.load;
     }
   where
     still : m.from ≢ row.face.id → ((m.from ≡ 0) ⊎ (m.from ≡ radio)) ⊎ (is_loaded modules m.from ≡ true) → ((m.from ≡ 0) ⊎ (m.from ≡ radio)) ⊎ (is_loaded (without_domain row.domain modules) m.from ≡ true)
@@ -183,7 +186,7 @@ queues_taken modules queues h = record {
 }
 
 -- one more where there is room
-queues_posted : (modules : List Loaded) (high : Bool) (m : Message) (queues : Lists Message) → IsKnown modules m → nat_lt (length (list_of high queues)) queue_limit ≡ true → GoodQueues modules queues → GoodQueues modules (appended high m queues)
+pub queues_posted : (modules : List Loaded) (high : Bool) (m : Message) (queues : Lists Message) → IsKnown modules m → nat_lt (length (list_of high queues)) queue_limit ≡ true → GoodQueues modules queues → GoodQueues modules (appended high m queues)
 queues_posted modules true m queues known room h =
     let below = ltb-true (length queues.high) queue_limit room in
     record {
@@ -297,6 +300,7 @@ dispatched_good p state m memory bytes small framed = record {
   memory = length-append (frame_of m) (drop message_frame_bytes p.memory) ∙ omega (arith, memory, length-drop message_frame_bytes p.memory);
   register_bytes = (dispatched_bytes p state m small framed bytes).registers;
   memory_bytes = (dispatched_bytes p state m small framed bytes).memory;
+  sreg_byte = omega arith;
 }
 
 pub loaded_good : (k : KernelState) (r : RunnerState) (m : Module) (domain : ℕ) (g : Given) → k.ending ≡ None → GoodMachine k r → GoodImage m → domain < domain_count → in_use k.modules domain ≡ false → is_loaded k.modules m.face.id ≡ false → GoodGiven k domain g → GoodMachine (loaded m domain g k r).kernel (loaded m domain g k r).runner
@@ -330,6 +334,7 @@ loaded_good k r m domain g quiet h image below unused unloaded block =
           receiver = is_loaded_new k.modules (seated m domain g);
           sender = inl (inl refl);
           framed = kernel_framed m.face.id 0 image.face.id.1 (omega arith);
+          load = refl;
         },
         rw quiet tt,
       );
@@ -365,16 +370,16 @@ started k r row m queues o h c waiting known ending = record {
 -- A load, by the first reason for which it is refused.
 
 module _ (k : KernelState) (r : RunnerState) (quiet : k.ending ≡ None) (h : GoodMachine k r) where
-  given_moved : (o : Option Given) (m : Module) (domain image : ℕ) → GoodImage m → domain < domain_count → in_use k.modules domain ≡ false → is_loaded k.modules m.face.id ≡ false → given k domain m.state_size ≡ o → GoodMoved (load_given o m domain image k r)
+  given_moved : (o : Option Given) (m : Module) (domain image : ℕ) → GoodImage m → domain < domain_count → in_use k.modules domain ≡ false → is_loaded k.modules m.face.id ≡ false → state_block k domain m.state_size ≡ o → GoodMoved (load_given o m domain image k r)
   given_moved None m domain image good below unused unloaded e = h
   given_moved (Some g) m domain image good below unused unloaded e =
-      loaded_good k r m domain g quiet h good below unused unloaded (given_good k domain m.state_size g h.blocks h.processor.memory below e)
+      loaded_good k r m domain g quiet h good below unused unloaded (state_block_good k domain m.state_size g h.blocks h.processor.memory below e)
 
   in_moved : (o : Option ℕ) (m : Module) (image : ℕ) → GoodImage m → is_loaded k.modules m.face.id ≡ false → free_domain k.modules ≡ o → GoodMoved (load_in o m image k r)
   in_moved None m image good unloaded e = h
   in_moved (Some domain) m image good unloaded e =
       let free = free_domain_is_free k.modules domain e in
-      given_moved (given k domain m.state_size) m domain image good free.0 free.1 unloaded refl
+      given_moved (state_block k domain m.state_size) m domain image good free.0 free.1 unloaded refl
 
   new_moved : (b : Bool) (m : Module) (image : ℕ) → GoodImage m → is_loaded k.modules m.face.id ≡ b → GoodMoved (load_new b m image k r)
   new_moved true m image good e = h
@@ -400,6 +405,7 @@ module _ (k : KernelState) (r : RunnerState) (quiet : k.ending ≡ None) (h : Go
         receiver = subst (λ (i : ℕ). is_loaded k.modules i ≡ true) n.id_of (contained_loaded k.modules row n.contained);
         sender = inl (inl refl);
         framed = kernel_framed id 1 (omega (arith, n.id_of, (each_contained (GoodModule r) k.modules row h.modules n.contained).face.id.1)) (omega arith);
+        load = refl;
       })
       (sym n.id_of ∙ sym (id_at_row k.modules row h.distinct n.contained))
 
@@ -428,104 +434,6 @@ came_good images w k r h out good = came_moved k r (none_ends k r h out) h image
 
 pub dispatch_good : (k : KernelState) (r : RunnerState) → GoodMachine k r → k.running ≡ None → GoodMachine (dispatch (front k.queues) k r).kernel (dispatch (front k.queues) k r).runner
 dispatch_good k r h out = dispatch_moved k r (none_ends k r h out) h (front k.queues) refl
-
--- A unit.
-
-goes_on_good : (k n : KernelState) (r : RunnerState) (run : Running) → GoodMachine k r → k.running ≡ Some run → AreAlike k.processor n.processor → HasBytes n.processor → n ≡ with_both k n.processor n.queues → GoodQueues k.modules n.queues → r.unit + 1 < length (bank r run.domain) → GoodMachine n (entered r (r.unit + 1))
-goes_on_good k n r run h i alike bytes alone queues behind =
-    let good = running_good k r run h i in
-    let unit = running_kept k (with_both k n.processor n.queues) r (entered r (r.unit + 1)) run alike.sp refl behind good.0 in
-    subst (λ (x : KernelState). GoodMachine x (entered r (r.unit + 1))) (sym alone) (record {
-      processor = alike_good k.processor n.processor alike bytes h.processor;
-      banks = h.banks;
-      modules = modules_kept r (entered r (r.unit + 1)) refl k.modules h.modules;
-      distinct = h.distinct;
-      blocks = h.blocks;
-      owners = h.owners;
-      queues = queues;
-      handler =
-          subst (GoodHandler (with_both k n.processor n.queues) (entered r (r.unit + 1))) (sym i) (
-            unit,
-            good.1,
-            ending_kept k (with_both k n.processor n.queues) run k.ending refl good.2,
-          );
-    })
-
-abbrev GoodActed : Acted → Type 0
-GoodActed got = GoodMachine got.kernel got.runner
-
-store_acted : (b : Bool) (i : Instr) (run : Running) (k : KernelState) (r : RunnerState) → IsBuilt (Store i) → GoodMachine k r → k.running ≡ Some run → r.unit + 1 < length (bank r run.domain) → GoodActed (act_store b i k r)
-store_acted true i run k r built h e behind =
-    goes_on_good k (with_processor k (plain_effect i k.processor)) r run h e (store_alike i k.processor built)
-    (store_bytes i k.processor built (good_bytes k.processor h.processor)) refl h.queues behind
-store_acted false i run k r built h e behind = h
-
-return_acted : (b : Bool) (k : KernelState) (r : RunnerState) → GoodMachine k r → GoodActed (act_return b k r)
-return_acted true k r h = h
-return_acted false k r h = h
-
-with_pair_alike : (p : Processor) (d w : ℕ) → AreAlike p (with_pair p d w)
-with_pair_alike p d w = record { sp = refl; registers = length-set (slice_set p.registers d (low w)) (d + 1) (high w) ∙ length-set p.registers d (low w); memory = refl }
-
-same_alike : (p : Processor) → AreAlike p p
-same_alike p = record { sp = refl; registers = refl; memory = refl }
-
--- A kernel call.
-module _ (k : KernelState) (r : RunnerState) (run : Running) (h : GoodMachine k r) (e : k.running ≡ Some run) (behind : r.unit + 1 < length (bank r run.domain)) where
-  answer_acted : (queues : Lists Message) (answer : ℕ) → answer < 2 ^ 16 → GoodQueues k.modules queues → GoodMachine (answered (record k { queues = queues }) answer) (entered r (r.unit + 1))
-  answer_acted queues answer small good =
-      goes_on_good k (answered (record k { queues = queues }) answer) r run h e (with_pair_alike k.processor 24 answer)
-      (pair_bytes k.processor 24 answer small (good_bytes k.processor h.processor)) refl good behind
-
-  where_acted : (b : Bool) (m : Message) → IsKnown k.modules m → nat_lt (length (list_of m.high k.queues)) queue_limit ≡ b → GoodMachine (post_where b m k) (entered r (r.unit + 1))
-  where_acted true m known room = answer_acted (appended m.high m k.queues) 0 (omega arith) (queues_posted k.modules m.high m k.queues known room h.queues)
-  where_acted false m known room = answer_acted k.queues 1 (omega arith) h.queues
-
-  -- a post's message takes its numbers from the registers
-  post_framed : IsFramed (message_of k run)
-  post_framed = record {
-    to = h.processor.register_bytes 24;
-    from = id_byte r k.modules run.domain h.modules;
-    sort = h.processor.register_bytes 22;
-    byte = h.processor.register_bytes 20;
-    word = pair_word k.processor 18 h.processor.register_bytes;
-  }
-
-  -- and it is known: its receiver is loaded, and so is its sender, which runs
-  to_acted : (b : Bool) → is_loaded k.modules (message_of k run).to ≡ b → GoodMachine (post_to b (message_of k run) k) (entered r (r.unit + 1))
-  to_acted true there =
-      where_acted (nat_lt (length (list_of (message_of k run).high k.queues)) queue_limit) (message_of k run)
-      (record { receiver = there; sender = inr (id_at_loaded k.modules run.domain (running_good k r run h e).0.loaded); framed = post_framed }) refl
-  to_acted false there = answer_acted k.queues 2 (omega arith) h.queues
-
-  call_acted : (o : Option Service) → GoodActed (act_call o run k r)
-  call_acted (Some PostShort) = to_acted (is_loaded k.modules (message_of k run).to) refl
-  call_acted (Some Say) = answer_acted k.queues 0 (omega arith) h.queues
-  call_acted (Some MyId) = answer_acted k.queues (id_at k.modules run.domain) (omega (arith, id_byte r k.modules run.domain h.modules)) h.queues
-  call_acted None = goes_on_good k k r run h e (same_alike k.processor) (good_bytes k.processor h.processor) refl h.queues behind
-
-at_acted : (o : Option Unit) (run : Running) (k : KernelState) (r : RunnerState) → GoodMachine k r → k.running ≡ Some run → next_unit r run ≡ o → GoodActed (act_at o run k r)
-at_acted None run k r h e next = h
-at_acted (Some (Plain i)) run k r h e next =
-    goes_on_good k (with_processor k (plain_effect i k.processor)) r run h e (plain_alike i k.processor (unit_is_built k r run (Plain i) h e next))
-    (plain_bytes i k.processor (unit_is_built k r run (Plain i) h e next) (good_bytes k.processor h.processor)) refl h.queues (unit_behind k r run (Plain i) h e next refl)
-at_acted (Some (Store i)) run k r h e next =
-    store_acted (may_store k run (store_address i k.processor)) i run k r (unit_is_built k r run (Store i) h e next) h e (unit_behind k r run (Store i) h e next refl)
-at_acted (Some (KernelCall n)) run k r h e next = call_acted k r run h e (unit_behind k r run (KernelCall n) h e next refl) (service_of n)
-at_acted (Some Return) run k r h e next = return_acted (k.processor.sp == run.base) k r h
-at_acted (Some _) run k r h e next = h
-
-running_acted : (o : Option Running) (k : KernelState) (r : RunnerState) → GoodMachine k r → k.running ≡ o → GoodActed (act_running o k r)
-running_acted None k r h e = h
-running_acted (Some run) k r h e = at_acted (next_unit r run) run k r h e refl
-
-pub act_good : (k : KernelState) (r : RunnerState) → GoodMachine k r → GoodMachine (act k r).kernel (act k r).runner
-act_good k r h = running_acted k.running k r h refl
-
-pub step_good : (k : KernelState) (r : RunnerState) (got : Acted) → UnitStep k r got → GoodMachine k r → GoodMachine got.kernel got.runner
-step_good k r got step h =
-    subst (λ (s : RunnerState). GoodMachine got.kernel s) (sym step.runner)
-    (same_kernel_good (unit_free k r) (act k r).kernel got.kernel (act k r).runner step.kernel (act_good k r h))
 
 pub faulted_good : (note : FaultNote) (run : Running) (k : KernelState) (r : RunnerState) (lines : List TraceLine) → GoodMachine k r → k.running ≡ Some run → GoodMachine (faulted note run k r lines).kernel (faulted note run k r lines).runner
 faulted_good note run k r lines h i =

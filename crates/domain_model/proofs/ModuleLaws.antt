@@ -6,8 +6,7 @@ use Rattle.std.proofs.lemmas.Bool.{cases_Bool, cond-true, cond-false, cond_both,
 use Rattle.std.proofs.lemmas.Option.{none-some, same_Some}
 use Rattle.std.proofs.lemmas.Map.Views.{any-filter_same}
 use Rattle.domain_model.specs.State.{Loaded}
-use Rattle.domain_model.specs.Act.{module_at, id_at, is_loaded}
-use Rattle.domain_model.specs.Turn.{in_use, module_named, without_domain}
+use Rattle.domain_model.specs.Modules.{module_at, id_at, is_loaded, in_use, module_named, without_domain}
 use Rattle.domain_model.specs.Good.{IsApart, AreDistinct}
 use Rattle.domain_model.proofs.Kept.{each_filter, each_push, each_contained, contained_nowhere, contained_first, contained_later, contained_cases, contained_filter, filter_contained, any_old, any_new, any_contained}
 

@@ -6,6 +6,7 @@ use Rattle.std.proofs.lemmas.Bool.{and_right, lt-leb, cases_eq}
 use Rattle.mote_base.specs.Messages.{Lists, front, unnamed}
 use Rattle.mote_layout.specs.Memory.{ram_start, kernel_bytes_start, kernel_bytes_end, heap_start, red_zone_start}
 use Rattle.mote_layout.specs.Blocks.{without_owner}
+use Rattle.mote_layout.specs.declared.segment.Segment.{Segment}
 use Rattle.unit_code.specs.declared.unit.Unit.{Unit}
 use Rattle.domain_model.specs.declared.event.Choice.{Choice}
 use Rattle.domain_model.specs.declared.event.Choice.TheVariants.{Stays, Comes, Dispatches, Jumps, Idles, Budgets, Watches, Acts}
@@ -15,9 +16,10 @@ use Rattle.domain_model.specs.declared.handler.Running.{Running}
 use Rattle.domain_model.specs.declared.line.TraceLine.{TraceLine}
 use Rattle.domain_model.specs.declared.line.TraceLine.TheVariants as line
 use Rattle.domain_model.specs.State.{Loaded, Message, KernelState, RunnerState, State}
+use Rattle.domain_model.specs.Modules.{without_domain}
 use Rattle.domain_model.specs.Act.{Acted, act}
 use Rattle.domain_model.specs.Free.{UnitStep, with_memory, ends_handler, is_kernel_byte}
-use Rattle.domain_model.specs.Turn.{settled, watchdog, at_clock, without_domain, emptied, choice, made, May, Leaves, Turn}
+use Rattle.domain_model.specs.Turn.{settled, watchdog, at_clock, emptied, choice, made, May, Leaves, Turn}
 use Rattle.domain_model.specs.Good.{GoodMachine, GoodModule, Good}
 use Rattle.domain_model.specs.Laws.{MayChangeAtFault, KeepsTheRest, KeepsOtherUnits, UnloadsAlone}
 use Rattle.domain_model.specs.Facts.{Facts}
@@ -26,9 +28,10 @@ use Rattle.domain_model.proofs.ChoiceLaws.{choice_facts}
 use Rattle.domain_model.proofs.Kept.{each_contained}
 use Rattle.domain_model.proofs.BlockLaws.{owned_in_heap}
 use Rattle.domain_model.proofs.CloseLaws.{gone}
-use Rattle.domain_model.proofs.MachineLaws.{step_good, bank_same, bank_other, same_banks}
+use Rattle.domain_model.proofs.UnitsKept.{step_good}
+use Rattle.domain_model.proofs.MachineLaws.{bank_same, bank_other, same_banks}
 use Rattle.domain_model.proofs.TurnLaws.{step_changes_alone}
-use Rattle.domain_model.proofs.ConfinedLaws.{end_bytes, end_queues}
+use Rattle.domain_model.proofs.ConfinedLaws.{end_bytes, end_queues, end_blocks}
 use Rattle.domain_model.proofs.UnloadLaws.{IsQuiet, quiet_by, came_quiet, dispatch_quiet, step_quiet, faulted_unloads, settled_unloads}
 
 -- a byte of a block is no byte of the kernel's, and no fault changes it
@@ -46,7 +49,7 @@ end_keeps k r got id domain now h step e =
     record {
       modules = ap (λ (n : KernelState). without_domain domain n.modules) alone;
       queues = ap (λ (q : Lists Message). unnamed id q) (end_queues k r got step e);
-      blocks = ap (λ (n : KernelState). without_owner domain n.blocks) alone;
+      blocks = ap (λ (bs : List Segment). without_owner domain bs) (end_blocks k r got step e);
       bytes = λ other i ne owned.
           elim (cases_eq (slice_index got.kernel.processor.memory i) (slice_index k.processor.memory i)) [
             | inl same ↦ same

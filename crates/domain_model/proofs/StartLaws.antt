@@ -16,7 +16,7 @@ pub begins_good : (images : List (Option Prep)) (events : List LoaderEvent) (uni
 unfolding no_memory
 begins_good images events units handler good times most least highest = record {
   machine = record {
-    processor = record { registers = refl; memory = refl; register_bytes = bytes_zeros register_count; memory_bytes = bytes_zeros ram_bytes };
+    processor = record { registers = refl; memory = refl; register_bytes = bytes_zeros register_count; memory_bytes = bytes_zeros ram_bytes; sreg_byte = omega arith };
     banks = refl;
     modules = tt;
     distinct = tt;

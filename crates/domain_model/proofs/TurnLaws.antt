@@ -12,17 +12,20 @@ use Rattle.domain_model.specs.declared.line.TraceLine.{TraceLine}
 use Rattle.domain_model.specs.Bytes.{AreBytes}
 use Rattle.domain_model.specs.Prepared.{Module, Prep}
 use Rattle.domain_model.specs.State.{Loaded, Message, KernelState, RunnerState, State}
-use Rattle.domain_model.specs.Act.{Acted, act, is_loaded}
+use Rattle.domain_model.specs.Modules.{is_loaded, free_domain, module_named}
+use Rattle.domain_model.specs.Given.{Given}
+use Rattle.domain_model.specs.Act.{Acted, act}
 use Rattle.domain_model.specs.Free.{SameBut, SameKernel, SameState, UnitStep, with_memory, is_kernel_byte, unit_free}
-use Rattle.domain_model.specs.Turn.{Given, given, free_domain, module_named, came, unload_module, deliver, dispatch, watchdog, load_image, load_prepared, load_new, load_in, load_given, settled, choice, made, May, Leaves, Turn}
+use Rattle.domain_model.specs.Turn.{state_block, came, unload_module, deliver, dispatch, watchdog, load_image, load_prepared, load_new, load_in, load_given, settled, choice, made, May, Leaves, Turn}
 use Rattle.domain_model.specs.Good.{GoodMachine, Good}
 use Rattle.domain_model.specs.Facts.{Facts}
 use Rattle.domain_model.proofs.TimeLaws.{times_drop, times_first}
 use Rattle.domain_model.proofs.ChoiceLaws.{choice_facts}
-use Rattle.domain_model.proofs.ActLaws.{with_both, act_changes_alone}
+use Rattle.domain_model.proofs.ActLaws.{with_parts, act_changes_alone}
 use Rattle.domain_model.proofs.ByteLists.{bytes_kept}
 use Rattle.domain_model.proofs.CloseLaws.{settled_rests}
-use Rattle.domain_model.proofs.MachineLaws.{clock_good, memory_good, faulted_good, came_good, dispatch_good, act_good, step_good, settled_good}
+use Rattle.domain_model.proofs.UnitsKept.{act_good, step_good}
+use Rattle.domain_model.proofs.MachineLaws.{clock_good, memory_good, faulted_good, came_good, dispatch_good, settled_good}
 
 -- The clock.
 
@@ -32,7 +35,7 @@ given_clock (Some g) m domain image k r = refl
 
 in_clock : (o : Option ℕ) (m : Module) (image : ℕ) (k : KernelState) (r : RunnerState) → (load_in o m image k r).kernel.clock ≡ k.clock
 in_clock None m image k r = refl
-in_clock (Some domain) m image k r = given_clock (given k domain m.state_size) m domain image k r
+in_clock (Some domain) m image k r = given_clock (state_block k domain m.state_size) m domain image k r
 
 new_clock : (b : Bool) (m : Module) (image : ℕ) (k : KernelState) (r : RunnerState) → (load_new b m image k r).kernel.clock ≡ k.clock
 new_clock true m image k r = refl
@@ -66,16 +69,19 @@ dispatch_clock (Some m) k r = deliver_clock (module_named k.modules m.to) m k r
 pub settled_clock : (e : UnitEnd) (run : Running) (k : KernelState) (r : RunnerState) (lines : List TraceLine) → (settled e run k r lines).kernel.clock ≡ k.clock
 settled_clock e run k r lines = (settled_rests e run k r lines).clock
 
--- a unit's step changes the processor and the queues alone
-pub step_changes_alone : (k : KernelState) (r : RunnerState) (got : Acted) → UnitStep k r got → got.kernel ≡ with_both k got.kernel.processor got.kernel.queues
+-- a unit's step changes the processor, the queues and the blocks alone
+pub step_changes_alone : (k : KernelState) (r : RunnerState) (got : Acted) → UnitStep k r got → got.kernel ≡ with_parts k got.kernel.processor got.kernel.queues got.kernel.blocks
 step_changes_alone k r got step =
-    let e : with_memory (act k r).kernel got.kernel.processor.memory ≡ with_both k (with_memory (act k r).kernel got.kernel.processor.memory).processor (act k r).kernel.queues
+    let e : with_memory (act k r).kernel got.kernel.processor.memory ≡ with_parts k (with_memory (act k r).kernel got.kernel.processor.memory).processor (act k r).kernel.queues (act k r).kernel.blocks
     = ap (λ (n : KernelState). with_memory n got.kernel.processor.memory) (act_changes_alone k r) in
-    subst (λ (n : KernelState). n ≡ with_both k n.processor n.queues) (sym step.kernel.rest) e
+    subst (λ (n : KernelState). n ≡ with_parts k n.processor n.queues n.blocks) (sym step.kernel.rest) e
 
--- and the queues as the unit itself does
+-- and these two as the unit itself does
 pub step_queues : (k : KernelState) (r : RunnerState) (got : Acted) → UnitStep k r got → got.kernel.queues ≡ (act k r).kernel.queues
 step_queues k r got step = ap (λ (n : KernelState). n.queues) step.kernel.rest
+
+pub step_blocks : (k : KernelState) (r : RunnerState) (got : Acted) → UnitStep k r got → got.kernel.blocks ≡ (act k r).kernel.blocks
+step_blocks k r got step = ap (λ (n : KernelState). n.blocks) step.kernel.rest
 
 -- What a turn makes of a good state, but for the free bytes.
 

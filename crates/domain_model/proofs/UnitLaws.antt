@@ -1,12 +1,10 @@
--- Lists of units that may be loaded: each unit that is built has its operands in range, there are no more units than
--- words in a bank, and behind a unit that control goes on from stands another.
-use Rattle.std.proofs.Common.{◌≡◌, ℕ, zero, suc, ◌+◌, ◌<◌, ◌≤◌, not, List, [], ◌∷◌, length, Bool, true, false, sym, ap, ◌∙◌, arith, Option, Some, None, slice_get}
-use Rattle.std.specs.List.{AllByRecursion}
+-- Lists of units that may be loaded: each unit is built, of its kind and leads to a unit, there are no more units than words in a
+-- bank, and behind a unit that control goes on from stands another.
+use Rattle.std.proofs.Common.{◌≡◌, ℕ, zero, suc, ◌+◌, ◌<◌, ◌≤◌, not, List, [], ◌∷◌, length, Bool, true, false, sym, ap, ◌∙◌, subst, arith, Option, Some, None, slice_get}
 use Rattle.std.proofs.lemmas.Bool.{and_parts, true≢false}
 use Rattle.std.proofs.lemmas.Option.{none-some, same_Some}
 use Rattle.std.proofs.lemmas.List.Sums.{sum_by-cons}
-use Rattle.avr_isa.specs.declared.instruction.Instr.TheVariants.{Ldi, Mov, StX}
-use Rattle.avr_isa.specs.Operands.{IsEncodable}
+use Rattle.avr_isa.specs.declared.instruction.Instr.{Instr}
 use Rattle.avr_isa.specs.Place.{second_word}
 use Rattle.avr_isa.specs.Table.{word_count}
 use Rattle.mote_layout.specs.Memory.{bank_words}
@@ -15,30 +13,40 @@ use Rattle.unit_code.specs.declared.unit.Unit.TheVariants.{Plain, Store, Load, P
 use Rattle.unit_code.specs.declared.unit.Shape.TheVariants.{Long}
 use Rattle.unit_code.specs.Ends.{leaves, goes_on, long_length}
 use Rattle.unit_code.specs.Lengths.{spelled_length}
-use Rattle.unit_code.specs.Proper.{IsOfKind, IsProper}
+use Rattle.unit_code.specs.Proper.{CanBeSkipped, IsOfKind, IsProper, LeadsBelow, SkipsAreSound, SkipsTo}
 use Rattle.domain_model.specs.Units.{is_built, are_built, IsBuilt, AreProper}
+use Rattle.domain_model.proofs.Kept.{each_at}
 
--- Units that are built.
-
-unit_built : (u : Unit) → IsOfKind u → is_built u ≡ true → IsBuilt u
-unfolding IsEncodable
-unit_built (Plain (Ldi d k)) h e = (h.1.0.1, h.1.1)
-unit_built (Plain (Mov d r)) h e = (h.1.0, h.1.1)
-unit_built (Plain _) h e = absurd (cc)
-unit_built (Store (StX r)) h e = h.1
-unit_built (Store _) h e = absurd (cc)
-unit_built (KernelCall n) h e = e
-unit_built Return h e = tt
-unit_built _ h e = absurd (cc)
-
-units_built : (us : List Unit) → AllByRecursion IsOfKind us → are_built us ≡ true → AllByRecursion IsBuilt us
-units_built [] h e = tt
-units_built (u ∷ us) h e =
-    let both = and_parts (is_built u) (are_built us) e in
-    (unit_built u h.0 both.0, units_built us h.1 both.1)
+-- Units of such a list.
 
 pub proper_built : (us : List Unit) (sealed : Bool) → IsProper us sealed → are_built us ≡ true → AreProper us
-proper_built us sealed h e = record { sealed = sealed; proper = h; built = units_built us h.kinds e }
+proper_built us sealed h e = record { sealed = sealed; proper = h; built = e }
+
+all_at : (us : List Unit) (i : ℕ) (u : Unit) → are_built us ≡ true → slice_get us i ≡ Some u → is_built u ≡ true
+all_at [] i u h e = absurd (none-some u e)
+all_at (x ∷ us) zero u h e = subst (λ (v : Unit). is_built v ≡ true) (same_Some x u e) (and_parts (is_built x) (are_built us) h).0
+all_at (x ∷ us) (suc i) u h e = all_at us i u (and_parts (is_built x) (are_built us) h).1 e
+
+-- each is built
+pub built_at : (us : List Unit) (i : ℕ) (u : Unit) → AreProper us → slice_get us i ≡ Some u → IsBuilt u
+built_at us i u h e = record { kind = each_at IsOfKind us i u h.proper.kinds e; built = all_at us i u h.built e }
+
+-- each leads to a unit
+pub target_at : (us : List Unit) (i : ℕ) (u : Unit) → AreProper us → slice_get us i ≡ Some u → LeadsBelow (length us) u
+target_at us i u h e = each_at (LeadsBelow (length us)) us i u h.proper.targets e
+
+-- and behind a skip stand two
+behind_skip : (us : List Unit) → CanBeSkipped us → 2 ≤ length us
+behind_skip [] h = absurd h
+behind_skip (x ∷ []) h = absurd h
+behind_skip (x ∷ y ∷ us) h = omega arith
+
+pub skip_at : (us : List Unit) (i : ℕ) (j : Instr) → SkipsAreSound us → slice_get us i ≡ Some (Skip j) → i + 2 < length us
+skip_at [] i j h e = absurd (none-some (Skip j) e)
+skip_at (x ∷ us) zero j h e =
+    let sound : SkipsTo (Skip j) us = subst (λ (v : Unit). SkipsTo v us) (same_Some x (Skip j) e) h.0 in
+    omega (arith, behind_skip us sound)
+skip_at (x ∷ us) (suc i) j h e = omega (arith, skip_at us i j h.1 e)
 
 -- Each unit has a word at least.
 

@@ -23,17 +23,19 @@ use Rattle.domain_model.specs.declared.line.TraceLine.{TraceLine}
 use Rattle.domain_model.specs.declared.line.TraceLine.TheVariants as line
 use Rattle.domain_model.specs.Prepared.{Module, Prep}
 use Rattle.domain_model.specs.State.{Loaded, Message, KernelState, RunnerState, State, seats}
-use Rattle.domain_model.specs.Act.{Acted, id_at, is_loaded}
+use Rattle.domain_model.specs.Modules.{id_at, is_loaded, in_use, module_named, without_domain, free_domain}
+use Rattle.domain_model.specs.Given.{Given}
+use Rattle.domain_model.specs.Act.{Acted}
 use Rattle.domain_model.specs.Free.{UnitStep, with_memory}
-use Rattle.domain_model.specs.Turn.{in_use, module_named, without_domain, Moved, unload_module, deliver, dispatch, Given, given, free_domain, emptied, came, load_image, load_prepared, refused_file, load_new, load_in, load_given, settled, faulted, watchdog, choice, made, May, Turn}
+use Rattle.domain_model.specs.Turn.{state_block, Moved, unload_module, deliver, dispatch, emptied, came, load_image, load_prepared, refused_file, load_new, load_in, load_given, settled, faulted, watchdog, choice, made, May, Turn}
 use Rattle.domain_model.specs.Good.{GoodMachine, GoodModule, Good}
 use Rattle.domain_model.specs.Laws.{Names, a_module, a_slot, a_message, the_message, a_block, a_lost_payload, the_running, UnloadsCleanly}
 use Rattle.domain_model.specs.Facts.{Facts}
 use Rattle.domain_model.proofs.Kept.{each_contained, each_filter, any_nowhere, contained_nowhere, contained_first, contained_later, contained_cases, contained_filter}
 use Rattle.domain_model.proofs.ChoiceLaws.{choice_facts}
 use Rattle.domain_model.proofs.ModuleLaws.{found, contained_without, other_domain, same_module, row_of_domain}
-use Rattle.domain_model.proofs.ActLaws.{running_good, act_unloads_nothing}
-use Rattle.domain_model.proofs.MachineLaws.{step_good}
+use Rattle.domain_model.proofs.ActLaws.{is_unload, running_good, act_unloads_nothing}
+use Rattle.domain_model.proofs.UnitsKept.{step_good}
 use Rattle.domain_model.proofs.CloseLaws.{gone, faulted_is, over_is, over_ending_is}
 use Rattle.domain_model.proofs.TurnLaws.{leaves, step_changes_alone}
 
@@ -141,10 +143,6 @@ names_alike k n id domain modules queues hand blocks running (the_running run e 
 abbrev pub IsQuiet : List TraceLine → Type 0
 IsQuiet lines = (time id : ℕ) → Contains lines (line.Unload time id) → ⊥
 
-abbrev pub is_unload : TraceLine → Bool
-is_unload (line.Unload t i) = true
-is_unload _ = false
-
 pub quiet_by : (lines : List TraceLine) → list_any is_unload lines ≡ false → IsQuiet lines
 quiet_by lines h time id c =
     true≢false (each_contained (λ x. is_unload x ≡ false) lines (line.Unload time id) (any_nowhere is_unload lines h) c)
@@ -155,7 +153,7 @@ given_quiet (Some g) m domain image k r = quiet_by (load_given (Some g) m domain
 
 in_quiet : (o : Option ℕ) (m : Module) (image : ℕ) (k : KernelState) (r : RunnerState) → IsQuiet (load_in o m image k r).lines
 in_quiet None m image k r = quiet_by (load_in None m image k r).lines refl
-in_quiet (Some domain) m image k r = given_quiet (given k domain m.state_size) m domain image k r
+in_quiet (Some domain) m image k r = given_quiet (state_block k domain m.state_size) m domain image k r
 
 new_quiet : (b : Bool) (m : Module) (image : ℕ) (k : KernelState) (r : RunnerState) → IsQuiet (load_new b m image k r).lines
 new_quiet true m image k r = quiet_by (load_new true m image k r).lines refl

@@ -1,5 +1,5 @@
 -- What holds of every turn of every run.
-use Rattle.std.specs.Prelude.{◌≡◌, ◌≢◌, ◌⊎◌, ℕ, ◌+◌, ◌≤◌, List, [], Option, Some, None, Contains, Bool, true, false, slice_index, ⊤}
+use Rattle.std.specs.Prelude.{◌≡◌, ◌≢◌, ◌⊎◌, ℕ, ◌+◌, ◌<◌, ◌≤◌, List, [], Option, Some, None, Contains, Bool, true, false, slice_index, ⊤}
 use Rattle.mote_base.specs.Messages.{in_order, unnamed}
 use Rattle.avr_isa.specs.declared.instruction.Instr.{Instr}
 use Rattle.avr_machine.specs.Processor.{Processor as CountingProcessor}
@@ -13,16 +13,18 @@ use Rattle.mote_layout.specs.Blocks.{without_owner, owns}
 use Rattle.mote_layout.specs.declared.segment.Segment.{Segment}
 use Rattle.domain_model.specs.declared.handler.Running.{Running}
 use Rattle.domain_model.specs.declared.event.Choice.TheVariants.{Acts}
+use Rattle.domain_model.specs.declared.event.Turned.TheVariants.{More}
 use Rattle.domain_model.specs.declared.fault.FaultNote.{FaultNote}
 use Rattle.domain_model.specs.declared.fault.UnitEnd.TheVariants.{Fault}
 use Rattle.domain_model.specs.declared.line.TraceLine.{TraceLine}
 use Rattle.domain_model.specs.declared.line.TraceLine.TheVariants as line
 use Rattle.domain_model.specs.State.{Processor, Message, Loaded, KernelState, RunnerState, State, at_counter, without_counter, seats}
 use Rattle.domain_model.specs.Act.{act, plain_effect, passes, bank}
-use Rattle.domain_model.specs.Free.{enters_kernel}
+use Rattle.domain_model.specs.Free.{ends_handler, enters_kernel}
 use Rattle.domain_model.specs.Modules.{without_domain}
 use Rattle.domain_model.specs.Turn.{choice, Turn, RunBy, RunFrom}
 use Rattle.domain_model.specs.Good.{Good}
+use Rattle.domain_model.specs.Remaining.{remaining}
 
 -- Confinement.
 
@@ -151,6 +153,11 @@ abbrev pub SkipsPassAsInstructions : Type 0
 SkipsPassAsInstructions = (i : Instr) (over address : ℕ) (p : Processor) → IsSkip i
     → effect i over (at_counter p address) ≡ at_counter p (skipped (passes i p) over address)
 
+-- A unit that ends the handler, by its return or by a fault, changes nothing and writes nothing: the turn does the rest.
+abbrev pub LastUnitsChangeNothing : Type 0
+LastUnitsChangeNothing = (k : KernelState) (r : RunnerState) → ends_handler (act k r).ending ≡ true
+    → ((act k r).kernel ≡ k) × ((act k r).runner ≡ r) × ((act k r).lines ≡ [])
+
 -- Every turn from a good state is lawful.
 abbrev pub TurnsAreLawful : Type 0
 TurnsAreLawful = (s t : State) (lines : List TraceLine) → Good s → Turn s t lines → LawfulTurn s t lines
@@ -158,6 +165,10 @@ TurnsAreLawful = (s t : State) (lines : List TraceLine) → Good s → Turn s t 
 -- So is every turn of a run from one.
 abbrev pub RunsAreLawful : Type 0
 RunsAreLawful = (s : State) (lines : List TraceLine) → Good s → RunFrom s lines → LawfulRunFrom s lines
+
+-- Each turn of a run that goes on leaves fewer turns to come, whatever a module's code does: no run is without end.
+abbrev pub FewerTurnsRemain : Type 0
+FewerTurnsRemain = (s t : State) (lines : List TraceLine) → Good s → s.ended ≡ More → Turn s t lines → remaining t < remaining s
 
 -- From every good state there is a run to an end.
 abbrev pub RunsEnd : Type 0

@@ -7,6 +7,7 @@ pub mod State
 pub mod Modules
 pub mod Given
 pub mod Calls
+pub mod Others
 pub mod Act
 pub mod Free
 pub mod Turn

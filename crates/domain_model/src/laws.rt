@@ -1,16 +1,28 @@
 //! The laws of the machine. Each stands over the definitions alone.
 ghost use Rattle.domain_model.specs.Facts.{ChoicesAreFounded};
 ghost use Rattle.domain_model.specs.Files.{FilesAreAsPrepared};
-ghost use Rattle.domain_model.specs.Laws.{CounterComesBack, UnitsActAsInstructions, UnitsAreOfTheirSorts, SkipsPassAsInstructions, TurnsAreLawful, RunsAreLawful, RunsEnd};
+ghost use Rattle.domain_model.specs.Others.{CallsLeaveOthers, RefusedCallsChangeNothing, OwnBlocksAreServed};
+ghost use Rattle.domain_model.specs.Laws.{CounterComesBack, UnitsActAsInstructions, UnitsAreOfTheirSorts, SkipsPassAsInstructions, LastUnitsChangeNothing, TurnsAreLawful, RunsAreLawful, FewerTurnsRemain, RunsEnd};
 
 /// Law: a unit's instruction does what the processor does by it wherever its program counter stands, for one that leads to
 /// the next instruction, as that of each plain unit and of each store does; a skip passes over a unit where the processor
-/// passes over an instruction, and does nothing else; and a program counter is all that the processor of this machine lacks.
+/// passes over an instruction, and does nothing else; a program counter is all that the processor of this machine lacks; and a
+/// unit that ends the handler, by a fault too, changes nothing.
 pub fn units_act_as_instructions()
     ensures counter { CounterComesBack }
     ensures sorts { UnitsAreOfTheirSorts }
     ensures effect { UnitsActAsInstructions }
     ensures skip { SkipsPassAsInstructions }
+    ensures last { LastUnitsChangeNothing }
+{}
+
+/// Law: a kernel call leaves to others what is theirs. Every other domain keeps its blocks, each byte that changes is one that was given out
+/// and is cleared, and all but the answer, the queues and the blocks stays. A call whose block isn't the caller's is refused, and changes
+/// nothing; one of the caller's blocks is always freed and handed over.
+pub fn kernel_calls_leave_others()
+    ensures others { CallsLeaveOthers }
+    ensures refused { RefusedCallsChangeNothing }
+    ensures served { OwnBlocksAreServed }
 {}
 
 /// Law: which turn comes, in words. Outside a handler an event that is due comes; else a message that waits is
@@ -28,9 +40,11 @@ pub fn every_turn_is_lawful()
     ensures runs { RunsAreLawful }
 {}
 
-/// Law: from every good state there is a run to an end.
+/// Law: from every good state there is a run to an end, and no run goes on for ever: each turn leaves fewer to come. A module whose
+/// code loops runs to the watchdog or to the end of the budget.
 pub fn every_good_state_runs_to_an_end()
-    ensures { RunsEnd }
+    ensures fewer { FewerTurnsRemain }
+    ensures end { RunsEnd }
 {}
 
 /// Law: a file that came to a module is an image that no rewriter made, whose code no condition refuses, and the module
