@@ -16,7 +16,7 @@ ghost use Rattle.mote_core.specs.Value.{acted, made_by, state_of};
 use crate::agenda::Agenda;
 use crate::limits::Limits;
 use crate::mod_loader::Ready;
-use crate::turns::{come, dispatch, run_one, settle, stop};
+use crate::turns::{come, dispatch, run_one, settle, stack_pointer, stop};
 use domain_model::{Choice, FaultNote, Lines, LoaderEvent, Rule, Running, TraceLine, Turned};
 use event_script::Script;
 use kernel_call::{Kernel, Runner};
@@ -271,7 +271,7 @@ impl<R: Runner> Mote<R> {
     {
         let note = FaultNote {
             rule: Rule::Watchdog,
-            address: self.kernel.cpu().sp,
+            address: stack_pointer(&self.kernel),
         };
         stop(note, run, &mut self.kernel, &mut self.runner, lines);
     }

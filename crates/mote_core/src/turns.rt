@@ -23,6 +23,13 @@ const NO_DOMAIN: u8 = 5;
 
 const NO_ROOM: u8 = 6;
 
+/// Where the stack of the running handler stands.
+pub fn stack_pointer(k: &Kernel) -> u16
+    ensures { result ≡ k.now.processor.sp }
+{
+    k.cpu().sp
+}
+
 // The id of the module in a domain, or 0 where there is none.
 fn id_at(k: &Kernel, domain: u8) -> u8
     ensures { result ≡ id_at k.now.modules domain }
