@@ -7,6 +7,7 @@ pub mod Images
 pub mod Counts
 pub mod Inversion
 pub mod OneImage
+pub mod PlainTurns
 pub mod Prepared
 pub mod SomeBytes
 pub mod Calls

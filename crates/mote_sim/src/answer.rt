@@ -25,9 +25,10 @@ use crate::sealing::{seal, upgrade};
 use domain_model::{Event, Kind, Lines, What};
 use event_script::{Script, ScriptError, parse_script};
 use mote_base::{NoMemory, Shelf, Sink, Status, Word};
-use mote_core::{Limits, Mote, PlainRunner, Ready};
+use mote_core::{Limits, Mote, Ready};
 use mote_layout::{DEFAULT_HANDLER_UNITS, DEFAULT_UNITS};
 use std::alloc::Global;
+use unit_run::PlainRunner;
 
 // The images of these files, prepared for their loads, where each of them is built.
 fn prepare_images(alloc: Global, files: &[Vec<u8>]) -> Result<Option<Vec<Ready>>, NoMemory>

@@ -13,8 +13,9 @@ ghost use Rattle.mote_sim.specs.Pieces.{LeadsBySome, Moves, piece_bytes};
 use arrayvec::ArrayVec;
 use domain_model::{Lines, TraceLine, Turned};
 use mote_base::{Failed, LINE_BYTES, Line, Sink};
-use mote_core::{Mote, PlainRunner};
+use mote_core::Mote;
 use trace_text::put_line;
+use unit_run::PlainRunner;
 
 // How many bytes a piece of a trace has at least, but for the last piece.
 const PIECE_BYTES: usize = 4096;

@@ -4,9 +4,10 @@ use arrayvec::ArrayVec;
 use domain_model::{Lines, Turned};
 use event_script::parse_script;
 use mote_base::Line;
-use mote_core::{Limits, Mote, PlainRunner, Ready};
+use mote_core::{Limits, Mote, Ready};
 use std::test::Fail;
 use trace_text::put_line;
+use unit_run::PlainRunner;
 
 /// Module 1 says byte 65: E481 940E F108 9508.
 const SAYS: &[u8] = b"SOSM\x01\x01\0\0\0\0\0\0\0\x04\0\x81\xE4\x0E\x94\x08\xF1\x08\x95";

@@ -1,6 +1,6 @@
 use Rattle.domain_model.specs.Turn.{choice}
 use Rattle.mote_core.specs.Value.{plain_state}
-use Rattle.mote_core.proofs.PlainTurns.{plain_turn}
+use Rattle.mote_sim.proofs.PlainTurns.{plain_turn}
 use Rattle.mote_sim.proofs.play.make_turn.Goals as goal
 
 pub returns-clause-lawful : goal.returns-clause-lawful
