@@ -1,7 +1,7 @@
 -- The runner that scribbles meets the law of runners.
 use Rattle.std.specs.Prelude.{IsSome, slice_index, slice_set}
 use Rattle.std.proofs.Common.{◌≡◌, ◌≢◌, ◌∙◌, ℕ, zero, suc, ◌+◌, ◌-◌, ◌<◌, ◌≤◌, ◌&&◌, ◌||◌, nat_le, List, length, Bool, true, false, inl, inr, refl, sym, ap, subst, arith, Option, None, Some}
-use Rattle.std.proofs.lemmas.Bool.{and_both, le-leb, or_left, or_parts, or_right, cases_eq}
+use Rattle.std.proofs.lemmas.Bool.{and_from, le-leb, or_left, or_parts, or_right, cases_eq}
 use Rattle.std.proofs.lemmas.List.{length-set, get_or-set_other, get_or-set_same}
 use Rattle.mote_layout.specs.Memory.{floor, ram_start, ram_end, ram_bytes, red_zone_start, kernel_bytes_start, kernel_bytes_end, stack_top}
 use Rattle.domain_model.specs.declared.fault.UnitEnd.{UnitEnd}
@@ -20,11 +20,11 @@ use Rattle.mote_tests.specs.Scribble.{ink, inked, dead_inked, kernel_inked, top_
 
 -- ink in bytes that are open
 one_more : (free : ℕ → Bool) (want got : List ℕ) (place : ℕ) → place < length got → free (place + ram_start) ≡ true → SameBut free want got → SameBut free want (slice_set got place ink)
-one_more free want got place within open same = record {
+one_more free want got place within free_here same = record {
   same_length = length-set got place ink ∙ same.same_length;
   same = λ i shut.
       elim (cases_eq i place) [
-        | inl here ↦ let both : true ≡ false = sym open ∙ ap (λ n. free (n + ram_start)) (sym here) ∙ shut in absurd (cc)
+        | inl here ↦ let both : true ≡ false = sym free_here ∙ ap (λ n. free (n + ram_start)) (sym here) ∙ shut in absurd (cc)
         | inr other ↦ get_or-set_other got place i ink 0 other ∙ same.same i shut
       ];
   bytes = λ i free_there.
@@ -39,10 +39,10 @@ one_more free want got place within open same = record {
 }
 
 all_inked : (free : ℕ → Bool) (want got : List ℕ) (place count : ℕ) → place + count ≤ length want → ((j : ℕ) → j < count → free (place + j + ram_start) ≡ true) → SameBut free want got → SameBut free want (inked place count got)
-all_inked free want got place zero within open same = same
-all_inked free want got place (suc n) within open same =
-    let before = all_inked free want got place n (omega (arith, within)) (λ j below. open j (omega (arith, below))) same in
-    one_more free want (inked place n got) (place + n) (omega (arith, within, before.same_length)) (open n (omega arith)) before
+all_inked free want got place zero within free_here same = same
+all_inked free want got place (suc n) within free_here same =
+    let before = all_inked free want got place n (omega (arith, within)) (λ j below. free_here j (omega (arith, below))) same in
+    one_more free want (inked place n got) (place + n) (omega (arith, within, before.same_length)) (free_here n (omega arith)) before
 
 -- The stack pointers of a handler lie in the memory, above the floor.
 pub record IsInStack (sp : ℕ) : Type 0 where
@@ -75,13 +75,13 @@ dead_open : (enters : Bool) (top j : ℕ) → j < top + 1 - red_zone_start → (
 dead_open enters top j below =
     let address : ℕ = red_zone_start - ram_start + j + ram_start in
     or_left (is_dead top address) (enters && is_kernel_byte address)
-    (and_both (nat_le red_zone_start address) (nat_le address top) (le-leb red_zone_start address (omega arith)) (le-leb address top (omega (arith, below))))
+    (and_from (nat_le red_zone_start address) (nat_le address top) (le-leb red_zone_start address (omega arith)) (le-leb address top (omega (arith, below))))
 
 kernel_open : (top j : ℕ) → j < kernel_bytes_end + 1 - kernel_bytes_start → (is_dead top (kernel_bytes_start - ram_start + j + ram_start) || (true && is_kernel_byte (kernel_bytes_start - ram_start + j + ram_start))) ≡ true
 kernel_open top j below =
     let address : ℕ = kernel_bytes_start - ram_start + j + ram_start in
     or_right (is_dead top address) (is_kernel_byte address)
-    (and_both (nat_le kernel_bytes_start address) (nat_le address kernel_bytes_end) (le-leb kernel_bytes_start address (omega arith)) (le-leb address kernel_bytes_end (omega (arith, below))))
+    (and_from (nat_le kernel_bytes_start address) (nat_le address kernel_bytes_end) (le-leb kernel_bytes_start address (omega arith)) (le-leb address kernel_bytes_end (omega (arith, below))))
 
 kernel_bytes_inked : (enters : Bool) (top : ℕ) (want got : List ℕ) → length want ≡ ram_bytes → SameBut (λ a. is_dead top a || (enters && is_kernel_byte a)) want got → SameBut (λ a. is_dead top a || (enters && is_kernel_byte a)) want (kernel_inked enters got)
 kernel_bytes_inked true top want got whole same =
@@ -100,7 +100,7 @@ scribbled_same k r run good running =
     kernel_bytes_inked (enters_kernel k r) (top_of k r) want (dead_inked (top_of k r) want) after.processor.memory dead
 
 runs : (k : KernelState) (r : RunnerState) (o : Option Running) → k.running ≡ o → IsSome o → GoodMachine k r → SameBut (unit_free k r) (act k r).kernel.processor.memory (scribbled k r)
-runs k r None is inside good = absurd inside
+runs k r None is inside good = absurd (cc)
 runs k r (Some run) is inside good = scribbled_same k r run good is
 
 pub scribble_law : (k : KernelState) (r : RunnerState) → GoodMachine k r → IsSome k.running → UnitStep k r (unit_by (λ x. x) (scribble_acts k r))

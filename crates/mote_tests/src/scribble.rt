@@ -1,10 +1,10 @@
 //! A runner that runs units as the plain runner does, and then writes over every byte that the unit leaves open: the dead
 //! bytes of the stack, and at an entry of the kernel the kernel's own. Rows that run with it give the same traces.
 ghost use Rattle.std.specs.Prelude.{◌≡◌, ◌+◌, ◌-◌, ◌≤◌};
-ghost use Rattle.mote_layout.specs.Memory.{ram_end, ram_start};
+ghost use Rattle.mote_layout.specs.Memory.{floor, ram_end, ram_start};
 ghost use Rattle.domain_model.specs.State.{KernelState};
 ghost use Rattle.domain_model.specs.Free.{calls_kernel, dead_top, ends_handler, with_memory};
-ghost use Rattle.mote_tests.specs.Scribble.{inked};
+ghost use Rattle.mote_tests.specs.Scribble.{dead_inked, inked};
 
 use domain_model::{Lines, UnitEnd};
 use kernel_call::{Kernel, Runner};
@@ -87,10 +87,10 @@ impl Runner for ScribbleRunner {
             unreachable!()
         };
         let calls = calls_kernel(&self.inner.next_unit(&run));
-        let before = k.cpu().sp;
+        let before = stack_pointer(k);
         let ending = self.inner.run_unit(k, lines);
         let top = dead_top(&ending, before, k);
-        scribble(k, RED_ZONE_START, top + 1 - RED_ZONE_START);
+        scribble_dead(k, top);
         if calls || ends_handler(&ending) {
             scribble(
                 k,
@@ -122,14 +122,29 @@ fn ends_handler(ending: &UnitEnd) -> bool
     }
 }
 
+fn stack_pointer(k: &Kernel) -> u16
+    ensures { result ≡ k.now.processor.sp }
+{
+    k.cpu().sp
+}
+
 /// The last of the dead bytes behind a unit that found the stack at `before`.
 fn dead_top(ending: &UnitEnd, before: u16, k: &Kernel) -> u16
     ensures { (old : KernelState) → old.processor.sp ≡ before → result ≡ dead_top ending.now old k.now }
 {
     match ending {
-        UnitEnd::On => k.cpu().sp,
+        UnitEnd::On => stack_pointer(k),
         UnitEnd::Over | UnitEnd::Fault(_) => before,
     }
+}
+
+/// Writes over the dead bytes of the stack, up to the last one.
+fn scribble_dead(k: &mut Kernel, top: u16)
+    requires low { floor ≤ top }
+    requires high { top ≤ ram_end }
+    ensures { k.new ≡ with_memory k.old (dead_inked top k.old.processor.memory) }
+{
+    scribble(k, RED_ZONE_START, top + 1 - RED_ZONE_START);
 }
 
 /// Writes over so many bytes from an address on.
