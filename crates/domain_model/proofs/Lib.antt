@@ -19,3 +19,4 @@ pub mod UnloadLaws
 pub mod OthersLaws
 pub mod LawfulLaws
 pub mod FileLaws
+pub mod CommandLaws
