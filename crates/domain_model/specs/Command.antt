@@ -1,5 +1,5 @@
 -- The command that the words of the command line are, and the files that it takes.
-use Rattle.std.specs.Prelude.{ℕ, ◌≡◌, ◌↔◌, ◌+◌, ◌&&◌, ◌==◌, nat_lt, nat_le, if◌then◌else◌, Bool, true, false, IsTrue, List, [], ◌∷◌, ◌++◌, length, slice_index, codes, Option, Some, None, unwrap_or}
+use Rattle.std.specs.Prelude.{ℕ, ◌≡◌, ◌≤◌, ◌↔◌, ◌+◌, ◌&&◌, ◌==◌, nat_lt, nat_le, if◌then◌else◌, Bool, false, IsTrue, List, [], ◌∷◌, ◌++◌, length, slice_index, codes, Option, Some, None, unwrap_or}
 use Rattle.std.specs.List.{AllByRecursion}
 use Rattle.std.specs.Str.{bytes_eq}
 use Rattle.mote_base.specs.Numbers.{number_in}
@@ -30,6 +30,13 @@ limit_of (Run units handler) number = if number == 0 then script_limit else imag
 limit_of Listing number = image_limit
 limit_of Upgrade number = image_limit
 limit_of Seal number = image_limit
+
+-- The limits of a run are in their ranges.
+abbrev pub IsWithinLimits : Kind → Type 0
+IsWithinLimits (Run units handler) = (1 ≤ units) × (units ≤ unit_limit) × (1 ≤ handler) × (handler ≤ handler_limit)
+IsWithinLimits Listing = Unit {0}
+IsWithinLimits Upgrade = Unit {0}
+IsWithinLimits Seal = Unit {0}
 
 -- The command of that name which takes no options.
 abbrev pub tool_of : List ℕ → Option Kind
@@ -242,3 +249,6 @@ command_of (verb ∷ words) = command_with verb (given_by words (Some nothing_gi
 
 abbrev pub CommandsAreByRules : Type 0
 CommandsAreByRules = (words : List (List ℕ)) (command : Command) → (command_of words ≡ Some command) ↔ IsCommand words command
+
+abbrev pub CommandsAreWithinLimits : Type 0
+CommandsAreWithinLimits = (words : List (List ℕ)) (command : Command) → command_of words ≡ Some command → IsWithinLimits command.kind

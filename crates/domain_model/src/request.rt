@@ -1,5 +1,5 @@
 //! The commands, and the options of a run.
-ghost use Rattle.domain_model.specs.Command.{CommandsAreByRules};
+ghost use Rattle.domain_model.specs.Command.{CommandsAreByRules, CommandsAreWithinLimits};
 
 /// What the words of the command line ask for.
 #[derive(Clone, Copy, Debug, PartialEq, Eq)]
@@ -36,7 +36,8 @@ pub enum Place {
 
 /// Law: words are a command exactly where the rules of the command line say so, and then they are that one. The rules
 /// speak of operands and of options with their values; the definition that reads the words from the left has neither
-/// more commands nor fewer.
+/// more commands nor fewer. The limits of a run are in their ranges, whether they are given or not.
 pub fn commands_are_by_rules()
-    ensures { CommandsAreByRules }
+    ensures rules { CommandsAreByRules }
+    ensures limits { CommandsAreWithinLimits }
 {}
