@@ -111,8 +111,8 @@ impl Kernel {
         ensures rest { IfSome result (λ address. self.new ≡ with_given self.old (given_as self.new address)) }
     {
         let address = self.heap.give(domain, size)?;
-        self.cpu
-            .clear(address, BLOCK_BYTES * size.div_ceil(BLOCK_BYTES));
+        let bytes = BLOCK_BYTES * size.div_ceil(BLOCK_BYTES);
+        self.cpu.clear(address, bytes);
         Some(address)
     }
 

@@ -1,6 +1,8 @@
-//! Tests of the public calls of what the kernel keeps: messages, frames, entries, links and timers.
+//! Tests of the public calls of what the kernel keeps and of the kernel: messages, frames, entries, links, timers, kernel calls.
 #![tactic(auto)]
 
+#[cfg(test)]
+mod kernel;
 #[cfg(test)]
 mod links;
 #[cfg(test)]
