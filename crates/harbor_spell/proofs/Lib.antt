@@ -1,0 +1,9 @@
+pub mod Standings
+pub mod Openings
+pub mod Candidates
+pub mod Fronts
+pub mod Starts
+pub mod Unique
+pub mod OneSpelling
+pub mod Lengths
+pub mod Joined
