@@ -1,5 +1,5 @@
 -- Rewritten code: which words spell which units.
-use Rattle.std.specs.Prelude.{◌≡◌, ℕ, zero, suc, ◌+◌, ◌<◌, ◌≤ℤ◌, Bool, List, [], ◌∷◌, length, slice_index, ⊤, ℤ, pos, negsuc}
+use Rattle.std.specs.Prelude.{◌≡◌, ℕ, ◌+◌, ◌&&◌, Bool, true, false, not, List, [], ◌∷◌, length, slice_index, ⊤, ℤ}
 use Rattle.std.specs.List.{AllByRecursion, Contains, flat_map}
 use Rattle.avr_isa.specs.Operands.{IsBranchOffset}
 use Rattle.avr_isa.specs.declared.instruction.Instr.{Instr}
@@ -97,44 +97,46 @@ AreShapesFrom starts i (u ∷ us) (s ∷ ss) = MayHave starts (start_of starts i
 abbrev pub AreShapesOf : List Unit → List Shape → Type 0
 AreShapesOf us shapes = AreShapesFrom (starts_of us shapes) 0 us shapes
 
--- the template of the unit in its long shape is one instruction
-abbrev pub IsOneInstruction : Unit → Type 0
-IsOneInstruction (Plain i) = ⊤
-IsOneInstruction Reserve = ⊤
-IsOneInstruction (Jump u) = ⊤
-IsOneInstruction (KernelCall n) = ⊤
-IsOneInstruction (SlotCall i) = ⊤
-IsOneInstruction SlotIndirect = ⊤
-IsOneInstruction Return = ⊤
-IsOneInstruction _ = ⊥
+abbrev pub is_short : Shape → Bool
+is_short Long = false
+is_short Short = true
 
-abbrev pub IsJump : Unit → Type 0
-IsJump (Jump u) = ⊤
-IsJump _ = ⊥
+-- whether the template of a unit in this shape is one instruction
+abbrev pub is_single : Unit → Shape → Bool
+is_single (Plain i) shape = true
+is_single Reserve shape = true
+is_single (Jump u) shape = true
+is_single (KernelCall n) shape = true
+is_single (SlotCall i) shape = true
+is_single SlotIndirect shape = true
+is_single Return shape = true
+is_single (Skip i) shape = is_short shape
+is_single (Branch set bit u) shape = is_short shape
+is_single _ shape = false
 
--- The template of the first unit is one instruction, in its shape.
-abbrev pub BeginWithOne : List Unit → List Shape → Type 0
-BeginWithOne (Skip x ∷ us) (Short ∷ ss) = ⊤
-BeginWithOne (Branch set bit u ∷ us) (Short ∷ ss) = ⊤
-BeginWithOne (u ∷ us) (s ∷ ss) = IsOneInstruction u
-BeginWithOne _ _ = ⊥
+abbrev pub is_jump : Unit → Bool
+is_jump (Jump u) = true
+is_jump _ = false
 
--- The first unit is a jump.
-abbrev pub BeginWithJump : List Unit → Type 0
-BeginWithJump (u ∷ us) = IsJump u
-BeginWithJump [] = ⊥
+-- whether a jump comes first
+abbrev pub begins_with_jump : List Unit → Bool
+begins_with_jump [] = false
+begins_with_jump (u ∷ us) = is_jump u
 
--- A short unit is read as one before these units: the next is no jump, and behind a skip it is one instruction.
-abbrev pub IsShortBefore : Unit → List Unit → List Shape → Type 0
-IsShortBefore (Skip x) us ss = (¬ BeginWithJump us) × BeginWithOne us ss
-IsShortBefore _ us ss = ¬ BeginWithJump us
+-- whether the template of the first unit is one instruction
+abbrev pub begins_with_single : List Unit → List Shape → Bool
+begins_with_single (u ∷ us) (s ∷ ss) = is_single u s
+begins_with_single _ _ = false
 
-abbrev pub IsReadBefore : Unit → Shape → List Unit → List Shape → Type 0
-IsReadBefore u Long us ss = ⊤
-IsReadBefore u Short us ss = IsShortBefore u us ss
+-- Whether the short template of a unit is read as one before these units: no jump comes first, which would make it the
+-- beginning of a long one, and a skip passes over one instruction.
+abbrev pub reads_short : Unit → List Unit → List Shape → Bool
+reads_short (Skip x) us ss = not (begins_with_jump us) && begins_with_single us ss
+reads_short _ us ss = not (begins_with_jump us)
 
--- Each short unit is read as one.
+-- Each short template is read as one.
 abbrev pub AreReadSo : List Unit → List Shape → Type 0
 AreReadSo [] shapes = ⊤
 AreReadSo (u ∷ us) [] = ⊤
-AreReadSo (u ∷ us) (s ∷ ss) = IsReadBefore u s us ss × AreReadSo us ss
+AreReadSo (u ∷ us) (Long ∷ ss) = AreReadSo us ss
+AreReadSo (u ∷ us) (Short ∷ ss) = (reads_short u us ss ≡ true) × AreReadSo us ss
