@@ -1,9 +1,12 @@
-pub mod Standings
-pub mod Openings
+pub mod Added
 pub mod Candidates
+pub mod Encodes
 pub mod Fronts
+pub mod Joined
+pub mod Lengths
+pub mod OneSpelling
+pub mod Openings
+pub mod Placed
+pub mod Standings
 pub mod Starts
 pub mod Unique
-pub mod OneSpelling
-pub mod Lengths
-pub mod Joined
