@@ -38,7 +38,7 @@ several_by is (Some (f, rest)) h e = (f, rest, h.kind, leb-true 2 (length (templ
 pub several-from : (is : List Instr) → AllByRecursion IsEncodable is → is_several (candidate is) ≡ true → BeginsWithSeveral is
 several-from is enc e = several_by is (candidate is) (candidate_begun is enc) e
 
-read_is_candidate : (f : Form) (rest : List Instr) → IsReadSo f rest → IsCandidate f rest
+pub read_is_candidate : (f : Form) (rest : List Instr) → IsReadSo f rest → IsCandidate f rest
 read_is_candidate (ShortSkip i) rest h = h.0
 read_is_candidate (ShortBranch set bit offset) rest h = h
 read_is_candidate _ rest h = tt

@@ -1,5 +1,6 @@
 pub mod Added
 pub mod Candidates
+pub mod Emitted
 pub mod Encodes
 pub mod Fronts
 pub mod Joined
