@@ -11,3 +11,4 @@ pub mod Placed
 pub mod Standings
 pub mod Starts
 pub mod Unique
+pub mod Wording

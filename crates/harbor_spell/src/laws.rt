@@ -3,6 +3,8 @@
 ghost use Rattle.std.specs.Prelude.{◌≡◌, ◌<◌, ◌^◌, ℕ, Bool, List};
 ghost use Rattle.std.specs.List.{AllByRecursion};
 ghost use Rattle.unit_code.specs.declared.unit.Unit.{Unit};
+ghost use Rattle.avr_isa.specs.declared.instruction.Instr.{Instr};
+ghost use Rattle.unit_code.specs.Beside.{AreWordsOf};
 ghost use Rattle.unit_code.specs.declared.unit.Shape.{Shape};
 ghost use Rattle.unit_code.specs.Proper.{IsProper};
 ghost use Rattle.unit_code.specs.Spelling.{AreReadSo, AreShapesOf, AreTemplatesOf, Lays, Spells, starts_of};
@@ -19,4 +21,11 @@ pub fn templates_spell()
     ensures { (words : List ℕ) (sealed : Bool) (units : List Unit) (shapes : List Shape) → IsProper units sealed
         → AreShapesOf units shapes → AreReadSo units shapes → AreTemplatesOf units shapes words
         → Lays words sealed units (starts_of units shapes) }
+{}
+
+/// Instructions have at most one list of words.
+pub fn one_wording()
+    ensures { (instructions : List Instr) (words others : List ℕ) → AllByRecursion (λ word. word < 2 ^ 16) words
+        → AllByRecursion (λ word. word < 2 ^ 16) others → AreWordsOf instructions words → AreWordsOf instructions others
+        → words ≡ others }
 {}
