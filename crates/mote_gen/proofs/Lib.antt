@@ -1,1 +1,3 @@
-pub mod Units
+mod Drawn
+mod Images
+mod Units

@@ -5,7 +5,8 @@ use Rattle.unit_code.specs.Law.{NoneHolds}
 use Rattle.module_image.specs.Contents.{Contents, first_version}
 use Rattle.domain_model.specs.Files.{IsImageWith}
 use Rattle.domain_model.specs.Prepared.{marks_of}
-use Rattle.event_script.specs.Spelled.{AreEvents}
+use Rattle.event_script.specs.Refusals as script
+use Rattle.event_script.specs.Spelled.{AreEvents, script_text}
 use Rattle.mote_gen.specs.Numbers.{module_count, numbers_of}
 use Rattle.mote_gen.specs.Bundle.{images_of}
 use Rattle.mote_gen.specs.Packets.{events_of}
@@ -22,3 +23,8 @@ ImagesAreAccepted = (seed : ℕ) → AllByRecursion (IsImageWith HasUnits) (imag
 -- The events are such as a script of a run with these images can have.
 abbrev pub EventsAreOfAScript : Type 0
 EventsAreOfAScript = (seed : ℕ) → AreEvents module_count (events_of (numbers_of seed))
+
+-- The text of the events is such a script, and it says these events.
+abbrev pub EventsAreRead : Type 0
+EventsAreRead = (seed : ℕ) → let text : List ℕ = script_text (events_of (numbers_of seed)) in
+    (script.refusal_of module_count text ≡ None) × (script.events_of text ≡ events_of (numbers_of seed))

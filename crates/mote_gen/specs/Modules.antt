@@ -3,7 +3,6 @@ use Rattle.std.specs.Prelude.{ℕ, ◌+◌, ◌*◌, false, List, [], ◌∷◌,
 use Rattle.std.specs.List.{range_with_len}
 use Rattle.module_image.specs.declared.face.Face.{Face}
 use Rattle.module_image.specs.Contents.{Contents, first_version}
-use Rattle.module_image.specs.Spelling.{spelling}
 use Rattle.mote_gen.specs.Numbers.{draw, from, module_count, module_draws}
 
 -- A module's code. On a message of the packets' type it counts down from a number, takes the payload and posts it to a receiver.
@@ -49,5 +48,8 @@ module_of numbers id = contents_of id (1 + draw numbers 0 count_bound) (1 + draw
 abbrev pub module_at : List ℕ → ℕ → Contents
 module_at numbers place = module_of (from numbers (module_draws * place)) (place + 1)
 
-unfoldable pub modules_of : List ℕ → List Contents
-modules_of numbers = map (module_at numbers) (range_with_len 0 module_count)
+unfoldable pub first_modules : List ℕ → ℕ → List Contents
+first_modules numbers count = map (module_at numbers) (range_with_len 0 count)
+
+abbrev pub modules_of : List ℕ → List Contents
+modules_of numbers = first_modules numbers module_count

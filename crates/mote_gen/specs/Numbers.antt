@@ -7,7 +7,7 @@ unfoldable pub next : ℕ → ℕ
 next number = (1664525 * number + 1013904223) % 2 ^ 32
 
 -- The number at a place behind the seed, which stands at place 0 itself.
-abbrev pub number : ℕ → ℕ → ℕ
+unfoldable pub number : ℕ → ℕ → ℕ
 number seed zero = seed
 number seed (suc place) = next (number seed place)
 
@@ -27,9 +27,13 @@ packet_draws = 10
 abbrev pub draw_count : ℕ
 draw_count = module_count * module_draws + packet_count * packet_draws
 
--- The numbers of a seed, in their order: the first follows the seed.
-unfoldable pub numbers_of : ℕ → List ℕ
-numbers_of seed = map (number seed) (range_with_len 1 draw_count)
+-- As many numbers of a seed as asked for, in their order: the first follows the seed.
+unfoldable pub first_numbers : ℕ → ℕ → List ℕ
+first_numbers seed count = map (number seed) (range_with_len 1 count)
+
+-- The numbers from which a bundle is drawn, each once.
+abbrev pub numbers_of : ℕ → List ℕ
+numbers_of seed = first_numbers seed draw_count
 
 -- The numbers of a list from a place on, by their places behind it, counted from 0.
 abbrev pub from : List ℕ → ℕ → ℕ → ℕ

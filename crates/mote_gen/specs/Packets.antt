@@ -1,5 +1,5 @@
 -- The events of a bundle's script.
-use Rattle.std.specs.Prelude.{ℕ, zero, suc, ◌+◌, ◌*◌, List, [], ◌∷◌, ◌++◌, map}
+use Rattle.std.specs.Prelude.{ℕ, zero, suc, ◌+◌, ◌*◌, List, ◌++◌, map}
 use Rattle.std.specs.List.{range_with_len}
 use Rattle.domain_model.specs.declared.script.Event.{Event}
 use Rattle.domain_model.specs.declared.script.What.{What}
@@ -10,8 +10,11 @@ use Rattle.mote_gen.specs.Numbers.{draw, from, module_count, module_draws, packe
 abbrev pub load_of : ℕ → Event
 load_of image = record { time = 0; what = Load image }
 
+unfoldable pub first_loads : ℕ → List Event
+first_loads count = map load_of (range_with_len 0 count)
+
 abbrev pub loads : List Event
-loads = map load_of (range_with_len 0 module_count)
+loads = first_loads module_count
 
 -- the type of a packet, and how many bytes it has
 abbrev pub packet_type : ℕ
@@ -46,7 +49,7 @@ abbrev pub place_of : ℕ → ℕ
 place_of packet = module_count * module_draws + packet_draws * packet
 
 -- The time when as many packets have come: it rises with each.
-abbrev pub time_after : List ℕ → ℕ → ℕ
+unfoldable pub time_after : List ℕ → ℕ → ℕ
 time_after numbers zero = 0
 time_after numbers (suc packet) = time_after numbers packet + rise_of (from numbers (place_of packet))
 
@@ -56,8 +59,11 @@ packet_at numbers packet = record {
   what = what_of (from numbers (place_of packet));
 }
 
-unfoldable pub packets_of : List ℕ → List Event
-packets_of numbers = map (packet_at numbers) (range_with_len 0 packet_count)
+unfoldable pub first_packets : List ℕ → ℕ → List Event
+first_packets numbers count = map (packet_at numbers) (range_with_len 0 count)
+
+abbrev pub packets_of : List ℕ → List Event
+packets_of numbers = first_packets numbers packet_count
 
 -- The loads, and behind them the packets.
 abbrev pub events_of : List ℕ → List Event
