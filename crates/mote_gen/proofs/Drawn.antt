@@ -20,3 +20,16 @@ from-numbers_of seed start place lt =
     number-number seed start (place + 1)
     ∙ (ap (number seed) (let at : start + (place + 1) ≡ start + place + 1 = omega arith in at)
     ∙ sym (get_or-first_numbers seed draw_count (start + place) lt))
+
+pub number-zero : (seed : ℕ) → number seed 0 ≡ seed
+unfolding number
+number-zero seed = refl
+
+pub number-next : (seed last place now : ℕ) → last ≡ number seed place → now ≡ next last → now ≡ number seed (place + 1)
+unfolding number
+number-next seed last place now at is =
+    is ∙ (ap next at ∙ ap (number seed) (let one : suc place ≡ place + 1 = omega arith in one))
+
+-- The number that comes behind one is the one behind its place.
+pub number_later : (seed last place more now : ℕ) → last ≡ number seed place → now ≡ number last more → now ≡ number seed (place + more)
+number_later seed last place more now at is = is ∙ (ap (λ n. number n more) at ∙ number-number seed place more)

@@ -1,10 +1,12 @@
 -- The images, one after the other.
 use Rattle.std.proofs.Common.{◌≡◌, ℕ, ◌+◌, ◌*◌, ◌<◌, List, [], ◌∷◌, ◌++◌, refl, sym, ap, ◌∙◌, arith}
-use Rattle.std.specs.Prelude.{map}
+use Rattle.std.specs.Prelude.{map, Vec}
+use Rattle.std.specs.declared.alloc.Global.{Global}
 use Rattle.std.proofs.lemmas.List.{map-append}
 use Rattle.std.proofs.lemmas.List.FromFn.{map-range_with_len_more}
 use Rattle.module_image.specs.Contents.{Contents}
 use Rattle.module_image.specs.Spelling.{Image, spelling}
+use Rattle.mote_gen.specs.Bundle.{files_of}
 use Rattle.mote_gen.specs.Numbers.{behind, from, number, numbers_of, module_count, module_draws}
 use Rattle.mote_gen.specs.Modules.{contents_of, first_modules, module_at, module_of}
 use Rattle.mote_gen.proofs.Drawn.{from-numbers_of}
@@ -34,3 +36,10 @@ images_more seed last place files file few at so_far image =
     ∙ (ap (λ f. map spelling (first_modules ns place) ++ f ∷ []) spelled
     ∙ (sym (map-append spelling (first_modules ns place) (module_at ns place ∷ []))
     ∙ ap (map spelling) (sym (first_modules_more ns place))))
+
+pub first_modules-zero : (numbers : List ℕ) → first_modules numbers 0 ≡ []
+unfolding first_modules
+first_modules-zero numbers = refl
+
+pub files_of-push : (files : List (Vec ℕ Global)) (file : Vec ℕ Global) → files_of (files ++ file ∷ []) ≡ files_of files ++ file.items ∷ []
+files_of-push files file = map-append (λ v. v.items) files (file ∷ [])
