@@ -1,12 +1,11 @@
 -- The events are such as a script can have.
-use Rattle.std.proofs.Common.{◌≡◌, ℕ, zero, suc, ◌+◌, ◌*◌, ◌%◌, ◌<◌, ◌≤◌, List, [], ◌∷◌, ◌++◌, length, length-append, map, refl, sym, ap, ◌∙◌, arith}
+use Rattle.std.proofs.Common.{◌≡◌, ℕ, zero, suc, ◌+◌, ◌-◌, ◌*◌, ◌<◌, ◌≤◌, List, [], ◌∷◌, ◌++◌, length, length-append, map, refl, ap, arith}
 use Rattle.std.specs.List.{AllByRecursion, range_with_len}
 use Rattle.std.proofs.lemmas.List.FromFn.{length-map-range_with_len}
 use Rattle.domain_model.specs.declared.script.Event.{Event}
-use Rattle.event_script.specs.Numbers.{last_time}
 use Rattle.event_script.specs.Spelled.{AreEvents, AreInOrder, IsInRange}
 use Rattle.mote_gen.specs.Numbers.{draw, from, module_count, packet_count}
-use Rattle.mote_gen.specs.Packets.{byte_bound, bytes_of, events_of, first_loads, first_packets, load_of, loads, packet_at, packet_bytes, packets_of, place_of, rise_bound, rise_of, time_after}
+use Rattle.mote_gen.specs.Packets.{byte_bound, events_of, first_loads, first_packets, load_of, loads, packet_at, packet_bytes, packets_of, place_of, rise_bound, time_after}
 use Rattle.mote_gen.proofs.Lists.{all_append, all_from}
 use Rattle.mote_gen.proofs.Events.{time_after-more, time_after-zero}
 
@@ -64,9 +63,10 @@ bytes_in_range : (numbers : ℕ → ℕ) (count : ℕ) → AllByRecursion (λ b.
 bytes_in_range numbers count = all_from (λ b. b < 256) (λ byte. draw numbers byte byte_bound) 0 count (λ k low. omega arith)
 
 packet_in_range : (numbers : List ℕ) (k : ℕ) → k < packet_count → IsInRange module_count (packet_at numbers k)
-packet_in_range numbers k low =
-    (omega (arith, early numbers (k + 1)),
-    ((omega arith, omega arith), omega arith, omega arith, bytes_in_range (λ byte. from numbers (place_of k) (2 + byte)) packet_bytes))
+packet_in_range numbers k low = (
+  omega (arith, early numbers (k + 1)),
+  ((omega arith, omega arith), omega arith, omega arith, bytes_in_range (λ byte. from numbers (place_of k) (2 + byte)) packet_bytes),
+)
 
 packets_in_range : (numbers : List ℕ) (count : ℕ) → count ≤ packet_count → AllByRecursion (IsInRange module_count) (first_packets numbers count)
 unfolding first_packets
@@ -84,6 +84,6 @@ pub are_events : (numbers : List ℕ) → AreEvents module_count (events_of numb
 are_events numbers = record {
   order = in_order_behind loads (packets_of numbers) (loads_at_zero module_count) (packets_in_order numbers packet_count);
   ranges = all_append (IsInRange module_count) loads (packets_of numbers)
-    (loads_in_range module_count (omega arith)) (packets_in_range numbers packet_count (omega arith));
+      (loads_in_range module_count (omega arith)) (packets_in_range numbers packet_count (omega arith));
   few = omega (arith, length-append loads (packets_of numbers), length-first_loads module_count, length-first_packets numbers packet_count);
 }

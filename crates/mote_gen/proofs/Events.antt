@@ -1,5 +1,5 @@
 -- The events, one after the other.
-use Rattle.std.proofs.Common.{◌≡◌, ℕ, suc, ◌+◌, ◌*◌, ◌<◌, ◌≤◌, List, [], ◌∷◌, ◌++◌, append_assoc, map, refl, sym, ap, ◌∙◌, arith}
+use Rattle.std.proofs.Common.{◌≡◌, ℕ, suc, ◌+◌, ◌<◌, List, [], ◌∷◌, ◌++◌, append_assoc, map, refl, sym, ap, ◌∙◌, arith}
 use Rattle.std.specs.List.{range_with_len}
 use Rattle.std.proofs.lemmas.List.FromFn.{map-range_with_len_more}
 use Rattle.domain_model.specs.declared.script.Event.{Event}
@@ -60,8 +60,8 @@ pub time_more : (seed last place before time : ℕ) → place < packet_count →
     → time ≡ time_after (numbers_of seed) (place + 1)
 time_more seed last place before time few at now rises =
     let same : rise_of (behind last) ≡ rise_of (from (numbers_of seed) (place_of place)) =
-        ap (λ n. rise_of (behind n)) at
-        ∙ rise_of-alike (behind (number seed (place_of place))) (from (numbers_of seed) (place_of place)) (from-numbers_of seed (place_of place) 0 (omega arith)) in
+    ap (λ n. rise_of (behind n)) at
+    ∙ rise_of-alike (behind (number seed (place_of place))) (from (numbers_of seed) (place_of place)) (from-numbers_of seed (place_of place) 0 (omega arith)) in
     rises ∙ (ap (λ n. n + rise_of (behind last)) now
     ∙ (ap (λ n. time_after (numbers_of seed) place + n) same
     ∙ sym (time_after-more (numbers_of seed) place)))
@@ -71,11 +71,11 @@ pub what_is : (seed last place : ℕ) → place < packet_count → last ≡ numb
 what_is seed last place few at =
     let start : ℕ = place_of place in
     let same : (k : ℕ) → k < 10 → behind (number seed start) k ≡ from (numbers_of seed) start k =
-        λ k low. from-numbers_of seed start k (omega arith) in
+    λ k low. from-numbers_of seed start k (omega arith) in
     ap (λ n. what_of (behind n)) at
     ∙ what_of-alike (behind (number seed start)) (from (numbers_of seed) start)
-        (same 1 (omega arith)) (same 2 (omega arith)) (same 3 (omega arith)) (same 4 (omega arith)) (same 5 (omega arith))
-        (same 6 (omega arith)) (same 7 (omega arith)) (same 8 (omega arith)) (same 9 (omega arith))
+    (same 1 (omega arith)) (same 2 (omega arith)) (same 3 (omega arith)) (same 4 (omega arith)) (same 5 (omega arith))
+    (same 6 (omega arith)) (same 7 (omega arith)) (same 8 (omega arith)) (same 9 (omega arith))
 
 event_is : (a b : Event) → a.time ≡ b.time → a.what ≡ b.what → a ≡ b
 event_is a b t w =

@@ -1,8 +1,8 @@
 -- Each image is one of the first version whose code has units.
-use Rattle.std.proofs.Common.{◌≡◌, ℕ, ◌+◌, ◌*◌, ◌<◌, ◌≤◌, List, refl, inl, arith}
+use Rattle.std.proofs.Common.{ℕ, ◌+◌, ◌*◌, ◌<◌, ◌≤◌, List, refl, inl, arith}
 use Rattle.std.specs.List.{AllByRecursion}
-use Rattle.module_image.specs.Contents.{Contents, FaceRules, IsModuleId, Rules}
-use Rattle.module_image.specs.Spelling.{Image, spelling}
+use Rattle.module_image.specs.Contents.{FaceRules, IsModuleId, Rules}
+use Rattle.module_image.specs.Spelling.{spelling}
 use Rattle.domain_model.specs.Files.{IsImageWith}
 use Rattle.mote_gen.specs.Numbers.{draw, from, module_count, module_draws}
 use Rattle.mote_gen.specs.Modules.{contents_of, count_bound, face_of, first_modules, module_at, receiver_bound}
@@ -43,7 +43,7 @@ is_accepted id count receiver is counts receives = record {
 module_is_accepted : (numbers : List ℕ) (place : ℕ) → place < module_count → IsImageWith HasUnits (spelling (module_at numbers place))
 module_is_accepted numbers place low =
     is_accepted (place + 1) (draw (from numbers (module_draws * place)) 0 count_bound) (draw (from numbers (module_draws * place)) 1 receiver_bound)
-        (omega arith, omega arith) (omega arith) (omega arith)
+    (omega arith, omega arith) (omega arith) (omega arith)
 
 first_are_accepted : (numbers : List ℕ) (count : ℕ) → count ≤ module_count → AllByRecursion (λ c. IsImageWith HasUnits (spelling c)) (first_modules numbers count)
 unfolding first_modules

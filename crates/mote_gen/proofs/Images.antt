@@ -4,11 +4,10 @@ use Rattle.std.specs.Prelude.{map, Vec}
 use Rattle.std.specs.declared.alloc.Global.{Global}
 use Rattle.std.proofs.lemmas.List.{map-append}
 use Rattle.std.proofs.lemmas.List.FromFn.{map-range_with_len_more}
-use Rattle.module_image.specs.Contents.{Contents}
 use Rattle.module_image.specs.Spelling.{Image, spelling}
 use Rattle.mote_gen.specs.Bundle.{files_of}
 use Rattle.mote_gen.specs.Numbers.{behind, from, number, numbers_of, module_count, module_draws}
-use Rattle.mote_gen.specs.Modules.{contents_of, first_modules, module_at, module_of}
+use Rattle.mote_gen.specs.Modules.{first_modules, module_at, module_of}
 use Rattle.mote_gen.proofs.Drawn.{from-numbers_of}
 
 -- A module is told by its two numbers.
@@ -28,9 +27,9 @@ pub images_more : (seed last place : ℕ) (files : List (List ℕ)) (file : List
 images_more seed last place files file few at so_far image =
     let ns : List ℕ = numbers_of seed in
     let same : module_of (behind last) (place + 1) ≡ module_at ns place =
-        ap (λ n. module_of (behind n) (place + 1)) at
-        ∙ module_of-alike (behind (number seed (module_draws * place))) (from ns (module_draws * place)) (place + 1)
-            (from-numbers_of seed (module_draws * place) 0 (omega arith)) (from-numbers_of seed (module_draws * place) 1 (omega arith)) in
+    ap (λ n. module_of (behind n) (place + 1)) at
+    ∙ module_of-alike (behind (number seed (module_draws * place))) (from ns (module_draws * place)) (place + 1)
+    (from-numbers_of seed (module_draws * place) 0 (omega arith)) (from-numbers_of seed (module_draws * place) 1 (omega arith)) in
     let spelled : file ≡ spelling (module_at ns place) = image.spelled ∙ ap spelling same in
     ap (λ fs. fs ++ file ∷ []) so_far
     ∙ (ap (λ f. map spelling (first_modules ns place) ++ f ∷ []) spelled

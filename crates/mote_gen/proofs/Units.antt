@@ -36,7 +36,7 @@ unfolding has_units have_units
 refuses_none count receiver counts receives =
     let for_count : have_units count ≡ true = test_at have_units 0 count_bound count count all_have_units counts (omega arith) in
     none_is (refusal (code_of (1 + count) (1 + receiver)) (0 ∷ []) false)
-        (test_at (has_units count) 0 receiver_bound receiver receiver for_count receives (omega arith))
+    (test_at (has_units count) 0 receiver_bound receiver receiver for_count receives (omega arith))
 
 pub no_condition_holds : (count receiver : ℕ) → count < count_bound → receiver < receiver_bound
     → NoneHolds (code_of (1 + count) (1 + receiver)) (0 ∷ []) false

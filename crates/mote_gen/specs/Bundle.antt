@@ -1,5 +1,5 @@
 -- What a seed makes.
-use Rattle.std.specs.Prelude.{ℕ, ◌≡◌, List, map, Vec}
+use Rattle.std.specs.Prelude.{ℕ, List, map, Vec}
 use Rattle.std.specs.declared.alloc.Global.{Global}
 use Rattle.module_image.specs.Spelling.{spelling}
 use Rattle.mote_gen.specs.Modules.{modules_of}

@@ -1,4 +1,4 @@
-use Rattle.std.proofs.Common.{◌≡◌, ◌+◌, ◌*◌, ◌++◌, ◌∙◌, ap, sym, append-nil, arith}
+use Rattle.std.proofs.Common.{◌≡◌, ◌+◌, ◌++◌, ◌∙◌, ap, sym, append-nil, arith}
 use Rattle.mote_gen.specs.Numbers.{number, numbers_of, packet_draws}
 use Rattle.mote_gen.specs.Packets.{loads, place_of, time_after}
 use Rattle.mote_gen.proofs.Drawn.{number_later}
@@ -16,13 +16,13 @@ loop-place-init c = record {
 pub loop-place-preserved : goal.loop-place-preserved
 loop-place-preserved c =
     let more : c.packet-event.result.time ≡ time_after (numbers_of c.args.seed) (c.loop-place.place + 1) =
-        time_more _ _ c.loop-place.place _ _ (omega arith) c.loop-place.invariant.last c.loop-place.invariant.time c.packet-event.ensures.time in
+    time_more _ _ c.loop-place.place _ _ (omega arith) c.loop-place.invariant.last c.loop-place.invariant.time c.packet-event.ensures.time in
     record {
       last = number_later _ _ (place_of c.loop-place.place) packet_draws _ c.loop-place.invariant.last c.packet-event.ensures.last
-        ∙ ap (number c.args.seed) (let at : place_of c.loop-place.place + packet_draws ≡ place_of (c.loop-place.place + 1) = omega arith in at);
+          ∙ ap (number c.args.seed) (let at : place_of c.loop-place.place + packet_draws ≡ place_of (c.loop-place.place + 1) = omega arith in at);
       time = more;
       early = omega (arith, c.packet-event.ensures.rise, c.loop-place.invariant.early);
       events = c.in_ok-push.ensures.items
-        ∙ packets_more _ c.loop-place.place loads _ _ c.loop-place.invariant.events more
-            (c.packet-event.ensures.what ∙ what_is _ _ c.loop-place.place (omega arith) c.loop-place.invariant.last);
+          ∙ packets_more _ c.loop-place.place loads _ _ c.loop-place.invariant.events more
+          (c.packet-event.ensures.what ∙ what_is _ _ c.loop-place.place (omega arith) c.loop-place.invariant.last);
     }

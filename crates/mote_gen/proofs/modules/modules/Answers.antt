@@ -15,7 +15,7 @@ loop-place-init c = record {
 pub loop-place-preserved : goal.loop-place-preserved
 loop-place-preserved c = record {
   last = number_later _ _ (module_draws * c.loop-place.place) module_draws _ c.loop-place.invariant.last c.module.ensures.last
-    ∙ ap (number c.args.numbers.now.last) (let at : module_draws * c.loop-place.place + module_draws ≡ module_draws * (c.loop-place.place + 1) = omega arith in at);
+      ∙ ap (number c.args.numbers.now.last) (let at : module_draws * c.loop-place.place + module_draws ≡ module_draws * (c.loop-place.place + 1) = omega arith in at);
   images = ap files_of c.in_ok-push.ensures.items ∙ (files_of-push c.loop-place.images.items c.in_ok-module.field-0
-    ∙ images_more _ _ c.loop-place.place _ _ (omega arith) c.loop-place.invariant.last c.loop-place.invariant.images c.in_ok-module.ensures.image);
+      ∙ images_more _ _ c.loop-place.place _ _ (omega arith) c.loop-place.invariant.last c.loop-place.invariant.images c.in_ok-module.ensures.image);
 }

@@ -1,4 +1,4 @@
-use Rattle.std.proofs.Common.{◌≡◌, ◌+◌, ◌*◌, ◌∙◌, ap, sym, length, length-append, arith, ℕ}
+use Rattle.std.proofs.Common.{◌∙◌, ap, sym, length, length-append, arith, ℕ}
 use Rattle.mote_gen.proofs.Drawn.{number-zero, number-next}
 use Rattle.mote_gen.proofs.Events.{bytes_more}
 use Rattle.mote_gen.proofs.packets.payload.Goals as goal
