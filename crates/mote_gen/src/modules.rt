@@ -28,11 +28,11 @@ fn code(count: u16, receiver: u16) -> [u16; 18]
         0x9120, // lds r18,0x0100
         0x0100,
         0x3027, // cpi r18,7
-        0xF009, // breq: over the next
+        0xF009, // brbs 1: over the next
         0x9508, // ret
         0xE000 + count, // ldi r16,count
         0x950A, // dec r16
-        0xF7F1, // brne: back to dec
+        0xF7F1, // brbc 1: back to dec
         0x940E, // call take
         0xF105,
         0x019C, // movw r18,r24
