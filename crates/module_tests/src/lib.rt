@@ -1,6 +1,8 @@
-//! Tests of the crates that read and write modules: of their public calls alone.
+//! Tests of the crates that read and write modules, and of the generator: of their public calls alone.
 #![tactic(auto)]
 
+#[cfg(test)]
+mod bundles;
 #[cfg(test)]
 mod image;
 #[cfg(test)]
