@@ -114,6 +114,10 @@ front_reads : (is : List Instr) → AllByRecursion IsEncodable is → DoesRead i
 unfolding front
 front_reads is enc = settled_stands is (candidate is) (candidate_begun is enc)
 
+-- the front comes first
+pub front-first : (is : List Instr) (f : Form) (rest : List Instr) → AllByRecursion IsEncodable is → front is ≡ Some (f, rest) → is ≡ template f ++ rest
+front-first is f rest enc e = (subst (DoesRead is) e (front_reads is enc)).words
+
 -- and the front stands there, in an image in which it may
 pub front-stands : (sealed : Bool) (is : List Instr) (f : Form) (rest : List Instr) → AllByRecursion IsEncodable is → front is ≡ Some (f, rest)
     → may_stand sealed f ≡ true → Stands sealed f is rest

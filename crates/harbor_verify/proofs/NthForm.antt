@@ -19,7 +19,7 @@ use Rattle.harbor_spell.specs.Front.{Found, front}
 use Rattle.unit_code.specs.Beside.{words_in}
 use Rattle.unit_code.specs.Beside.{form_words, starts_from}
 use Rattle.unit_code.specs.Spelling.{start_of}
-use Rattle.harbor_spell.proofs.Fronts.{front-stands}
+use Rattle.harbor_spell.proofs.Fronts.{front-first}
 use Rattle.harbor_spell.proofs.Joined.{within}
 use Rattle.harbor_spell.proofs.OneSpelling.{Words16, words_encodable}
 use Rattle.harbor_spell.proofs.Starts.{are_forms, length-starts, starts_rise}
@@ -127,8 +127,7 @@ pub form_within : (words : List ℕ) (place : ℕ) (f : Form) → Words16 words 
 form_within words place f small inside e =
     let found = found_front (front (instructions (drop place words))) f e in
     let enc = instructions_encodable (drop place words) (drop_small place words small) in
-    let stands = front-stands (instructions (drop place words)) f found.0 enc found.1 in
-    let few = words_within (template f) found.0 (drop place words) stands.words in
+    let few = words_within (template f) found.0 (drop place words) (front-first (instructions (drop place words)) f found.0 enc found.1) in
     omega (arith, few, length-drop place words)
 
 -- What is known of the n-th template.

@@ -80,6 +80,7 @@ record IsUnitOf (starts : List ℕ) (n at : ℕ) (f : Form) (us : List Unit) (u 
 whole_long : (u : Unit) → HasOneForm u → spelled_length u Long ≡ form_words (Whole u)
 whole_long (unit.Plain i) h = sym (add-zero (instruction_length i))
 whole_long (unit.Store i) h = ap (λ n. 2 + n) (sym (add-zero (instruction_length i)))
+whole_long (unit.Load i) h = ap (λ n. 2 + n) (sym (add-zero (instruction_length i)))
 whole_long (unit.SpGroup true) h = refl
 whole_long (unit.SpGroup false) h = refl
 whole_long (unit.Skip i) h = absurd h

@@ -1,6 +1,6 @@
 -- Words that spell units have no refusal.
 use Rattle.std.proofs.Common.{◌≡◌, ◌≢◌, ◌∙◌, ℕ, zero, suc, ◌+◌, ◌-◌, ◌^◌, ◌≤◌, ◌<◌, ◌==◌, cond, eqb, ltb, min, not, Bool, true, false, List, [], ◌∷◌, ◌++◌, length, get_or, drop, Option, Some, None, is_some, ℤ, refl, sym, ap, ap₂, subst, arith}
-use Rattle.std.specs.Prelude.{⊤, option_map}
+use Rattle.std.specs.Prelude.{⊤, option_map, IfOk, Result, Ok, Err}
 use Rattle.std.specs.List.{AllByRecursion, Contains}
 use Rattle.std.proofs.lemmas.Option.{none-some, same_Some}
 use Rattle.std.proofs.lemmas.Bool.{eq-eqb, le-ltb}
@@ -177,3 +177,12 @@ module _ (sealed : Bool) where
   one_verdict words marks told small h us starts k =
       let same = one_laying words sealed (units_in words) us told starts small h.lays k.lays in
       (starts_count words sealed h.lays.0 (units_in words) told h.lays.1 ∙ ap length same.0, same.1)
+
+  -- accepted words spell some units
+  pub units_told : (words marks told : List ℕ) (r : Result ℕ VerifyError)
+      → IfOk r (λ count. Spells words marks sealed (units_in words) told × (count ≡ length told))
+      → IfOk r (λ count. (us : List Unit) × Spells words marks sealed us told × (count ≡ length us))
+  units_told words marks told (Ok count) h =
+      let lays = h.0.lays in
+      (units_in words, h.0, h.1 ∙ starts_count words sealed lays.0 (units_in words) told lays.1)
+  units_told words marks told (Err e) h = tt

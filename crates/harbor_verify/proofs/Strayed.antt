@@ -15,7 +15,7 @@ use Rattle.unit_code.specs.Targets.{AreFirstWords, number_of, number_reached, re
 use Rattle.unit_code.proofs.Astray.{no_start, start_less}
 use Rattle.unit_code.specs.declared.form.Form.{Form}
 use Rattle.unit_code.specs.declared.form.Form.TheVariants.{Whole, ShortSkip, LongSkip, ShortBranch, LongBranch, Jumping, Calling}
-use Rattle.unit_code.specs.Templates.{IsForm, branch, store_guard, template}
+use Rattle.unit_code.specs.Templates.{IsForm, branch, template}
 use Rattle.unit_code.specs.Beside.{form_words, starts_from}
 use Rattle.unit_code.specs.Spelling.{start_of}
 use Rattle.harbor_spell.proofs.Lengths.{skip_length}
@@ -45,6 +45,7 @@ leads_after (i ∷ is) place at k h = ⊎_elim (λ here. let e = here.0 in omega
 whole_still : (u : Unit) → IsForm (Whole u) → AllStill (template (Whole u))
 whole_still (unit.Plain i) h = (still i (unit.Plain i) h.0.0, tt)
 whole_still (unit.Store i) h = (refl, (still i (unit.Store i) h.0.0, tt))
+whole_still (unit.Load i) h = (refl, (still i (unit.Plain i) h.0.0, tt))
 whole_still (unit.Push r) h = (refl, (refl, tt))
 whole_still (unit.Pop d) h = (refl, (refl, tt))
 whole_still (unit.SpGroup true) h = (refl, (refl, (refl, (refl, tt))))

@@ -23,7 +23,8 @@ pub fn read_units(alloc: Global, code: &Words<'_>, starts: &Starts) -> Result<Ba
         → Spells code.now marks sealed units starts.now → bank.units ≡ units) }
     ensures same { IfOk result (λ bank. (bank.words ≡ code.now) × (bank.starts ≡ starts.now)) }
 {
-    let _len = code.len();
+    // what tells the length tells that words are of 16 bits
+    let _count = code.len();
     let units = units(alloc, code, starts.as_slice())?;
     let words = words(alloc, code)?;
     let starts = copied(alloc, starts.as_slice())?;

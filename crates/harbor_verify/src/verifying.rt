@@ -36,6 +36,8 @@ pub fn verify(
     // The refusal is the first condition that holds, at its least word.
     ensures first { IfErr result (λ e. IsFirst code.now marks.now sealed e) }
 {
+    // what tells the length tells that words are of 16 bits
+    let _count = code.len();
     verdict(code, marks, sealed, starts)
 }
 
@@ -46,14 +48,13 @@ fn verdict(
     starts: &mut Starts,
 ) -> Result<u16, VerifyError>
     requires few { length code.now ≤ 65535 }
-    ensures small { AllByRecursion (λ w. w < 2 ^ 16) code.now }
+    requires small { AllByRecursion (λ w. w < 2 ^ 16) code.now }
     ensures ok { IfOk result (λ count. Spells code.now marks.now sealed (units_in code.now) starts.new
         × (count ≡ length starts.new)) }
     ensures err { IfErr result (λ e. refusal code.now marks.now sealed ≡ Some e) }
     ensures only { (units : List Unit) (places : List ℕ) → Spells code.now marks.now sealed units places
         → IsOkAnd result (λ count. (count ≡ length units) × (starts.new ≡ places)) }
 {
-    let _len = code.len();
     if let Some(at) = first_barred(code, sealed) {
         return Err(VerifyError::Word(at));
     }
