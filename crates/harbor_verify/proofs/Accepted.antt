@@ -1,11 +1,11 @@
 -- What accepted words are, and reading their units.
-use Rattle.std.proofs.Common.{◌≡◌, ◌∙◌, ℕ, ◌+◌, ◌≤◌, ◌<◌, Bool, List, [], ◌∷◌, ◌++◌, length, drop, Option, Some, None, refl, sym, ap, ap₂, subst, arith, append-nil, append_assoc}
+use Rattle.std.proofs.Common.{◌≡◌, ◌∙◌, ℕ, ◌+◌, ◌≤◌, Bool, List, [], ◌∷◌, ◌++◌, length, drop, Some, None, sym, ap, arith, append-nil, append_assoc}
 use Rattle.std.specs.List.{cons_option}
 use Rattle.std.proofs.lemmas.List.{drop_all}
 use Rattle.unit_code.specs.declared.unit.Unit.{Unit}
 use Rattle.unit_code.specs.declared.form.Form.{Form}
 use Rattle.unit_code.specs.Beside.{starts_from}
-use Rattle.unit_code.specs.Spelling.{Lays, Spells, start_of}
+use Rattle.unit_code.specs.Spelling.{Spells, start_of}
 use Rattle.harbor_spell.proofs.OneSpelling.{Words16, one_laying, places_are}
 use Rattle.harbor_verify.specs.Aims.{unit_of, units_from}
 use Rattle.harbor_verify.specs.Parts.{ArePartsOf, IsAccepted}

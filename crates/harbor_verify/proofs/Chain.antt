@@ -1,5 +1,5 @@
 -- The refusal by its parts.
-use Rattle.std.proofs.Common.{◌≡◌, ◌∙◌, ℕ, ◌≤◌, Bool, List, length, Option, Some, None, refl, sym, ap, subst, arith}
+use Rattle.std.proofs.Common.{◌≡◌, ◌∙◌, ℕ, Bool, List, Option, Some, None, refl, sym, ap}
 use Rattle.std.specs.Prelude.{option_map}
 use Rattle.harbor_verify.specs.declared.error.VerifyError.{VerifyError}
 use Rattle.harbor_verify.specs.declared.error.VerifyError.TheVariants.{Word, Guard, Target}

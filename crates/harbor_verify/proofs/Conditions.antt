@@ -1,6 +1,5 @@
 -- The walks find where the conditions on words and templates first hold.
-use Rattle.std.proofs.Common.{◌≡◌, ◌≢◌, ◌∙◌, ℕ, zero, suc, ◌+◌, ◌-◌, ◌^◌, ◌≤◌, ◌<◌, cond, Bool, true, false, List, [], ◌∷◌, ◌++◌, length, drop, Option, Some, None, Result, Ok, Err, refl, sym, ap, subst, arith}
-use Rattle.std.specs.Prelude.{⊤}
+use Rattle.std.proofs.Common.{◌≡◌, ◌≢◌, ◌∙◌, ℕ, zero, suc, ◌+◌, ◌-◌, ◌≤◌, cond, Bool, true, false, List, [], ◌∷◌, drop, Option, Some, None, Result, Ok, refl, sym, ap, subst, arith}
 use Rattle.std.proofs.lemmas.Option.{none-some, same_Some}
 use Rattle.avr_isa.specs.Decoded.{decoded}
 use Rattle.avr_isa.specs.declared.instruction.Instr.{Instr}
@@ -8,8 +7,7 @@ use Rattle.avr_isa.specs.declared.instruction.DecodeError.{DecodeError}
 use Rattle.unit_code.specs.Items.{next_word}
 use Rattle.unit_code.specs.Lengths.{instruction_length}
 use Rattle.unit_code.specs.declared.form.Form.{Form}
-use Rattle.unit_code.specs.Templates.{template}
-use Rattle.harbor_spell.specs.Front.{Found, front, may_stand}
+use Rattle.harbor_spell.specs.Front.{front, may_stand}
 use Rattle.unit_code.specs.Beside.{AreWordsOf, words_in}
 use Rattle.unit_code.specs.Spelled.{BeginWith}
 use Rattle.unit_code.specs.Beside.{StandBy, Stands, form_words, forms_words}
@@ -17,10 +15,10 @@ use Rattle.harbor_spell.proofs.Fronts.{front-barred, front-is, front-none, front
 use Rattle.harbor_spell.proofs.Starts.{form_words-some, instruction_length-some}
 use Rattle.harbor_spell.proofs.Unique.{no_template}
 use Rattle.harbor_verify.specs.Errors.{BeginBadly, IsBadRead}
-use Rattle.harbor_verify.specs.Words.{form_found, instructions, is_barred}
-use Rattle.harbor_verify.specs.Walks.{barred_from, barred_here, form_first, stuck_from, stuck_here}
+use Rattle.harbor_verify.specs.Words.{instructions, is_barred}
+use Rattle.harbor_verify.specs.Walks.{barred_from, barred_here, stuck_from, stuck_here}
 use Rattle.harbor_verify.proofs.Converse.{AreRead, no_read, read_behind_form, same_read}
-use Rattle.harbor_verify.proofs.Readings.{Reads, dropped, no_words, nothing, permitted_here, permitted_none, reads, something}
+use Rattle.harbor_verify.proofs.Readings.{dropped, no_words, nothing, permitted_here, permitted_none, reads, something}
 
 -- Where something is barred, it begins badly there.
 pub record IsBarredAt (sealed : Bool) (words : List ℕ) (from at : ℕ) : Type 0 where

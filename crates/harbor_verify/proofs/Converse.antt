@@ -1,9 +1,7 @@
 -- Words that spell units are not refused.
-use Rattle.std.proofs.Common.{◌≡◌, ◌≢◌, ◌∙◌, ℕ, zero, suc, ◌+◌, ◌-◌, ◌^◌, ◌≤◌, ◌<◌, ◌==◌, cond, eqb, ltb, not, Bool, true, false, List, [], ◌∷◌, ◌++◌, length, get_or, drop, Option, Some, None, is_some, Result, Ok, Err, ℤ, pos, refl, sym, ap, ap₂, subst, arith, add-zero, append_assoc, ◌&&◌, lit<}
-use Rattle.std.specs.Prelude.{⊤, option_map}
-use Rattle.std.specs.List.{AllByRecursion, Contains}
-use Rattle.std.proofs.lemmas.Option.{none-some, same_Some}
-use Rattle.std.proofs.lemmas.Bool.{eq-eqb, lt-ltb}
+use Rattle.std.proofs.Common.{◌≡◌, ◌∙◌, ℕ, zero, suc, ◌+◌, ◌-◌, ◌^◌, ◌<◌, cond, not, Bool, true, false, List, [], ◌∷◌, ◌++◌, drop, Some, None, Result, Ok, Err, ℤ, pos, refl, sym, ap, ap₂, subst, arith, ◌&&◌, lit<}
+use Rattle.std.specs.List.{AllByRecursion}
+use Rattle.std.proofs.lemmas.Bool.{lt-ltb}
 use Rattle.avr_isa.specs.Decoded.{decoded}
 use Rattle.avr_isa.specs.Operands.{IsEncodable}
 use Rattle.avr_isa.specs.declared.instruction.Instr.{Instr}
@@ -11,7 +9,7 @@ use Rattle.avr_isa.specs.declared.instruction.Instr.TheVariants as instr
 use Rattle.avr_isa.specs.declared.instruction.DecodeError.{DecodeError}
 use Rattle.mote_layout.specs.declared.page.Entry.TheVariants as entry
 use Rattle.mote_layout.specs.declared.page.Entry.{Entry}
-use Rattle.mote_layout.specs.Page.{StandsAt, entry_at, page}
+use Rattle.mote_layout.specs.Page.{StandsAt, entry_at}
 use Rattle.mote_layout.proofs.EntryPage.{entry_at-some}
 use Rattle.unit_code.specs.declared.unit.Unit.{Unit}
 use Rattle.unit_code.specs.declared.unit.Unit.TheVariants as unit
@@ -23,19 +21,15 @@ use Rattle.unit_code.specs.declared.form.Form.{Form}
 use Rattle.unit_code.specs.declared.form.Form.TheVariants.{Whole, ShortSkip, LongSkip, ShortBranch, LongBranch, Jumping, Calling}
 use Rattle.unit_code.specs.Templates.{IsForm, MayStandIn, address_of, branch, guard_of, template}
 use Rattle.unit_code.specs.Loads.{is_load}
-use Rattle.harbor_spell.specs.Front.{front}
 use Rattle.unit_code.specs.Beside.{AreWordsOf, words_in}
-use Rattle.unit_code.specs.Spelled.{BeginWith}
-use Rattle.unit_code.specs.Beside.{StandBy, Stands, form_words, forms_words, starts_from}
+use Rattle.unit_code.specs.Beside.{StandBy, Stands, form_words}
 use Rattle.harbor_spell.proofs.Fronts.{behind_encodable, front-is, may_stand-true}
-use Rattle.avr_isa.proofs.TableLaws.{decoded_length}
 use Rattle.harbor_spell.proofs.Standings.{Back, IsCalled, IsStore, back, is_called}
-use Rattle.harbor_spell.proofs.Openings.{unequal}
 use Rattle.std.proofs.lemmas.List.{drop-drop}
 use Rattle.harbor_spell.proofs.Starts.{form_words-some, instruction_length-some}
-use Rattle.harbor_verify.specs.Words.{form_found, instructions, is_barred, is_barred_kind, is_callable, may_enter}
-use Rattle.harbor_verify.specs.Walks.{barred_from, barred_here, form_first, stuck_from, stuck_here}
-use Rattle.harbor_verify.proofs.Readings.{NoneBarred, Reads, behind_words, dropped, no_words, nothing, permitted_here, reads, something}
+use Rattle.harbor_verify.specs.Words.{instructions, is_barred, is_barred_kind, may_enter}
+use Rattle.harbor_verify.specs.Walks.{barred_from, barred_here, stuck_from, stuck_here}
+use Rattle.harbor_verify.proofs.Readings.{NoneBarred, behind_words, dropped, no_words, nothing, permitted_here, reads, something}
 
 module _ (sealed : Bool) where
   -- An entry of the page that may be called.

@@ -1,10 +1,9 @@
 -- The refusal is the first condition that holds, at its least word.
-use Rattle.std.proofs.Common.{◌≡◌, ◌≢◌, ◌∙◌, ℕ, zero, suc, ◌+◌, ◌-◌, ◌^◌, ◌≤◌, ◌<◌, cond, ltb, min, Bool, true, false, List, [], ◌∷◌, length, drop, Option, Some, None, refl, sym, ap, ap₂, subst, arith, ◌⊎◌, ⊎_elim, inl, inr}
+use Rattle.std.proofs.Common.{◌≡◌, ◌∙◌, ℕ, ◌+◌, ◌≤◌, ◌<◌, cond, ltb, min, Bool, true, false, List, [], ◌∷◌, length, drop, Option, Some, None, refl, sym, ap, subst, arith, ◌⊎◌, ⊎_elim, inl, inr}
 use Rattle.std.specs.Prelude.{option_map, IfErr, Result, Ok, Err}
-use Rattle.std.specs.List.{AllByRecursion, Contains}
+use Rattle.std.specs.List.{Contains}
 use Rattle.std.proofs.lemmas.Option.{none-some, same_Some}
 use Rattle.std.proofs.lemmas.Bool.{lt-ltb, ltb-true}
-use Rattle.avr_isa.specs.Operands.{IsEncodable}
 use Rattle.avr_isa.specs.declared.instruction.Instr.{Instr}
 use Rattle.mote_layout.specs.Memory.{bank_words}
 use Rattle.unit_code.specs.declared.unit.Unit.{Unit}
@@ -12,7 +11,7 @@ use Rattle.unit_code.specs.Ends.{goes_on, long_length}
 use Rattle.unit_code.specs.Refusals.{is_empty, least_stray}
 use Rattle.unit_code.specs.Targets.{AreFirstWords, number_of}
 use Rattle.unit_code.proofs.Astray.{no_start, start_less}
-use Rattle.unit_code.proofs.Strays.{IsLeastStray, least_stray-none, least_stray-some}
+use Rattle.unit_code.proofs.Strays.{IsLeastStray, least_stray-some}
 use Rattle.unit_code.specs.declared.form.Form.{Form}
 use Rattle.unit_code.specs.Beside.{AreWordsOf}
 use Rattle.unit_code.specs.Beside.{StandBy, starts_from}
@@ -24,14 +23,14 @@ use Rattle.harbor_verify.specs.declared.error.VerifyError.{VerifyError}
 use Rattle.harbor_verify.specs.declared.error.VerifyError.TheVariants.{Word, Guard, Target, FallsOff, Empty, TooLong, Entry}
 use Rattle.harbor_verify.specs.Aims.{astray_from}
 use Rattle.harbor_verify.specs.Errors.{GoesAstray, Holds}
-use Rattle.harbor_verify.specs.Law.{IsFirst, IsNoLater, error_word, order}
+use Rattle.harbor_verify.specs.Law.{IsFirst, error_word, order}
 use Rattle.harbor_verify.specs.Parts.{ArePartsOf}
 use Rattle.harbor_verify.specs.Verdict.{or_else, refusal, refusal_of_targets, refusal_of_templates, refusal_of_units, refusal_of_words, stray_mark, units_in}
 use Rattle.harbor_verify.specs.Walks.{barred, forms_in, starts_in, stuck}
 use Rattle.harbor_verify.specs.Words.{instructions}
-use Rattle.harbor_verify.proofs.Conditions.{BarredBy, IsBarredAt, IsStuckAt, barred_holds, barred_least, stuck_at, stuck_holds}
+use Rattle.harbor_verify.proofs.Conditions.{barred_holds, barred_least, stuck_at, stuck_holds}
 use Rattle.harbor_verify.proofs.Converse.{AreRead, words_read}
-use Rattle.harbor_verify.proofs.NoRefusal.{AreParted, are_parted, lays, neither, none_of, refused_when, units_resolve}
+use Rattle.harbor_verify.proofs.NoRefusal.{AreParted, are_parted, lays, none_of, refused_when, units_resolve}
 use Rattle.harbor_verify.proofs.NthForm.{first_words}
 use Rattle.harbor_verify.proofs.Readings.{not_barred_read}
 use Rattle.harbor_verify.proofs.Scanned.{Scan, scan}

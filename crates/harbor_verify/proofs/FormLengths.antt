@@ -1,14 +1,11 @@
 -- Lengths of templates.
-use Rattle.std.proofs.Common.{◌≡◌, ◌∙◌, ℕ, ◌+◌, ◌≤◌, Bool, true, false, Option, Some, None, ℤ, refl, ap, sym, arith, add-zero}
+use Rattle.std.proofs.Common.{◌≡◌, ℕ, ◌+◌, ◌≤◌, Bool, true, false, Option, Some, None, ℤ, refl, ap, sym, arith, add-zero}
 use Rattle.avr_isa.specs.Place.{second_word}
 use Rattle.avr_isa.specs.Table.{word_count}
 use Rattle.avr_isa.specs.declared.instruction.Instr.{Instr}
-use Rattle.unit_code.specs.declared.unit.Unit.{Unit}
 use Rattle.unit_code.specs.declared.unit.Unit.TheVariants as unit
-use Rattle.unit_code.specs.declared.unit.Shape.TheVariants.{Long}
-use Rattle.unit_code.specs.Lengths.{instruction_length, spelled_length}
-use Rattle.unit_code.specs.declared.form.Form.{Form}
-use Rattle.unit_code.specs.declared.form.Form.TheVariants.{Whole, ShortSkip, LongSkip, ShortBranch, LongBranch, Jumping, Calling}
+use Rattle.unit_code.specs.Lengths.{instruction_length}
+use Rattle.unit_code.specs.declared.form.Form.TheVariants.{Whole, ShortSkip, ShortBranch, LongBranch}
 use Rattle.unit_code.specs.Beside.{form_words}
 
 few_words : (o : Option ℕ) → word_count o ≤ 2

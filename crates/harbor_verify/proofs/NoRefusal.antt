@@ -1,35 +1,34 @@
 -- Words that are not refused spell units.
-use Rattle.std.proofs.Common.{◌≡◌, ◌≢◌, ◌∙◌, ℕ, zero, suc, ◌+◌, ◌-◌, ◌^◌, ◌≤◌, ◌<◌, cond, ltb, min, Bool, true, false, List, [], ◌∷◌, ◌++◌, length, get_or, Option, Some, None, refl, sym, ap, subst, arith}
-use Rattle.std.specs.Prelude.{⊤, option_map}
+use Rattle.std.proofs.Common.{◌≡◌, ◌∙◌, ℕ, suc, ◌+◌, ◌≤◌, ◌<◌, cond, ltb, min, Bool, true, false, List, [], ◌∷◌, length, Option, Some, None, refl, sym, ap, subst, arith}
+use Rattle.std.specs.Prelude.{option_map}
 use Rattle.std.specs.List.{AllByRecursion, Contains}
 use Rattle.std.proofs.lemmas.Bool.{ltb-false}
-use Rattle.std.proofs.lemmas.Option.{none-some}
 use Rattle.std.proofs.lemmas.List.{get_or_default}
 use Rattle.avr_isa.specs.declared.instruction.Instr.{Instr}
 use Rattle.mote_layout.specs.Memory.{bank_words}
 use Rattle.unit_code.specs.declared.unit.Unit.{Unit}
 use Rattle.unit_code.specs.declared.unit.Shape.{Shape}
 use Rattle.unit_code.specs.Ends.{goes_on, long_length}
-use Rattle.unit_code.specs.Proper.{IsGuardedSo, IsProper, LeadsBelow}
+use Rattle.unit_code.specs.Proper.{IsGuardedSo, LeadsBelow}
 use Rattle.unit_code.specs.declared.unit.Unit.TheVariants.{Skip, Branch, Jump, LocalCall}
 use Rattle.unit_code.specs.Templates.{MayStandIn}
 use Rattle.unit_code.specs.Refusals.{is_empty, least_stray}
-use Rattle.unit_code.specs.Targets.{AreFirstWords, number_of}
+use Rattle.unit_code.specs.Targets.{number_of}
 use Rattle.unit_code.proofs.Numbers.{number_of-some}
-use Rattle.unit_code.proofs.Strays.{IsLeastStray, least_stray-none}
+use Rattle.unit_code.proofs.Strays.{least_stray-none}
 use Rattle.unit_code.specs.declared.form.Form.{Form}
 use Rattle.unit_code.specs.Beside.{AreWordsOf}
 use Rattle.unit_code.specs.Beside.{StandBy, starts_from}
-use Rattle.unit_code.specs.Spelling.{AreSpelledBy, Lays, Spells, form_of, forms_from, start_of}
+use Rattle.unit_code.specs.Spelling.{Lays, Spells, form_of, forms_from, start_of}
 use Rattle.harbor_spell.proofs.OneSpelling.{Words16, same_starts, words_encodable}
 use Rattle.harbor_spell.proofs.Starts.{are_forms, length-starts}
 use Rattle.harbor_verify.specs.declared.error.VerifyError.{VerifyError}
 use Rattle.harbor_verify.specs.declared.error.VerifyError.TheVariants.{Word, Guard, Target, FallsOff, Empty, TooLong, Entry}
-use Rattle.harbor_verify.specs.Aims.{astray_from, shapes_of, units_from}
+use Rattle.harbor_verify.specs.Aims.{astray_from, shapes_of}
 use Rattle.harbor_verify.specs.Verdict.{or_else, refusal, refusal_of_targets, refusal_of_templates, refusal_of_units, refusal_of_words, stray_mark, units_in}
-use Rattle.harbor_verify.specs.Walks.{barred, barred_from, forms_in, forms_over, starts_in, starts_over, stuck, stuck_from}
+use Rattle.harbor_verify.specs.Walks.{barred, forms_in, starts_in, stuck}
 use Rattle.harbor_verify.specs.Words.{instructions}
-use Rattle.harbor_verify.proofs.Readings.{Parted, not_barred_read, parted}
+use Rattle.harbor_verify.proofs.Readings.{not_barred_read, parted}
 use Rattle.harbor_verify.proofs.Resolved.{Resolves, resolved, shapes_count}
 
 pub neither : (a b : Option VerifyError) → or_else a b ≡ None → (a ≡ None) × (b ≡ None)

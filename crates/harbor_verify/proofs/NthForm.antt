@@ -1,14 +1,14 @@
 -- The n-th template.
-use Rattle.std.proofs.Common.{◌≡◌, ◌≢◌, ◌∙◌, ℕ, zero, suc, ◌+◌, ◌-◌, ◌^◌, ◌≤◌, ◌<◌, List, [], ◌∷◌, ◌++◌, length, get_or, drop, Option, Some, None, Result, Ok, Err, Bool, true, false, not, cond, eqb, ℤ, refl, sym, ap, subst, arith, length-drop, add-one}
+use Rattle.std.proofs.Common.{◌≡◌, ◌∙◌, ℕ, zero, suc, ◌+◌, ◌-◌, ◌^◌, ◌≤◌, ◌<◌, List, [], ◌∷◌, ◌++◌, length, get_or, drop, Option, Some, None, Ok, Err, Bool, true, false, not, cond, eqb, ℤ, refl, sym, ap, subst, arith, length-drop}
 use Rattle.std.specs.List.{AllByRecursion}
 use Rattle.std.proofs.lemmas.Option.{none-some, same_Some}
 use Rattle.std.proofs.lemmas.Bool.{eqb-true, eq-eqb}
-use Rattle.std.proofs.lemmas.List.{drop-drop, drop_all}
+use Rattle.std.proofs.lemmas.List.{drop_all}
 use Rattle.avr_isa.specs.declared.instruction.Instr.{Instr}
 use Rattle.avr_isa.specs.Operands.{IsEncodable}
 use Rattle.avr_isa.specs.Decoded.{decoded}
 use Rattle.std.specs.Prelude.{IfSome}
-use Rattle.avr_isa.proofs.TableLaws.{decoded_count, decoded_is_encodable}
+use Rattle.avr_isa.proofs.TableLaws.{decoded_is_encodable}
 use Rattle.unit_code.specs.Items.{next_word}
 use Rattle.unit_code.specs.Lengths.{instruction_length}
 use Rattle.unit_code.specs.Targets.{AreFirstWords}
@@ -18,17 +18,16 @@ use Rattle.unit_code.specs.Templates.{template}
 use Rattle.harbor_spell.specs.Front.{Found, front}
 use Rattle.unit_code.specs.Beside.{words_in}
 use Rattle.unit_code.specs.Beside.{form_words, starts_from}
-use Rattle.unit_code.specs.Spelling.{start_of}
 use Rattle.harbor_spell.proofs.Fronts.{front-first}
 use Rattle.harbor_spell.proofs.Joined.{within}
-use Rattle.harbor_spell.proofs.OneSpelling.{Words16, words_encodable}
+use Rattle.harbor_spell.proofs.OneSpelling.{Words16}
 use Rattle.harbor_spell.proofs.Starts.{are_forms, length-starts, starts_rise}
 use Rattle.harbor_verify.specs.Aims.{astray, astray_from, can_pass, is_group_form, is_last, leads, unless}
 use Rattle.harbor_verify.specs.Parts.{ArePartsOf}
 use Rattle.harbor_verify.specs.Words.{followed, form_found, instructions, instructions_over}
-use Rattle.harbor_verify.specs.Walks.{form_first, form_here, forms_in, forms_over, start_here, starts_in, starts_over, stuck, stuck_from}
+use Rattle.harbor_verify.specs.Walks.{form_first, form_here, forms_in, forms_over, start_here, starts_in, starts_over}
 use Rattle.harbor_verify.proofs.NoRefusal.{AreParted, are_parted}
-use Rattle.harbor_verify.proofs.Readings.{Reads, something, nothing, reads}
+use Rattle.harbor_verify.proofs.Readings.{something, nothing, reads}
 
 -- What is known of the n-th start among words from a place on.
 pub record IsNth (over place : ℕ) (words : List ℕ) (n s : ℕ) : Type 0 where

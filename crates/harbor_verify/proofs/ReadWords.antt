@@ -1,5 +1,5 @@
 -- Reading instructions from words.
-use Rattle.std.proofs.Common.{◌≡◌, ◌∙◌, ℕ, zero, suc, ◌+◌, ◌-◌, ◌≤◌, ◌<◌, List, [], ◌∷◌, ◌++◌, length, get_or, drop, Option, Some, None, Result, Ok, Err, refl, sym, ap, subst, arith, ◌⊎◌, ⊎_elim, inl, inr, length-drop}
+use Rattle.std.proofs.Common.{◌≡◌, ◌∙◌, ℕ, zero, suc, ◌+◌, ◌≤◌, ◌<◌, List, [], ◌∷◌, length, get_or, drop, Option, Some, None, Ok, Err, refl, sym, ap, arith, ◌⊎◌, ⊎_elim, inl, inr, length-drop}
 use Rattle.std.proofs.lemmas.List.{drop-drop, drop_all, drop_more}
 use Rattle.avr_isa.specs.Decoded.{decoded}
 use Rattle.avr_isa.specs.Table.{word_count}
@@ -7,8 +7,6 @@ use Rattle.avr_isa.specs.declared.instruction.Instr.{Instr}
 use Rattle.avr_isa.specs.declared.instruction.DecodeError.{DecodeError}
 use Rattle.avr_isa.proofs.TableLaws.{decoded_count}
 use Rattle.unit_code.specs.Items.{next_word}
-use Rattle.unit_code.specs.Lengths.{instruction_length}
-use Rattle.avr_isa.proofs.TableLaws.{decoded_length}
 use Rattle.harbor_verify.specs.Words.{followed, instructions, instructions_over}
 
 -- words that belong to the instruction before are passed over

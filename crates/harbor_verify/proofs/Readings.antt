@@ -1,25 +1,22 @@
 -- The instructions of words, and the templates that the walks find among them.
-use Rattle.std.proofs.Common.{◌≡◌, ◌≢◌, ◌∙◌, ℕ, zero, suc, ◌+◌, ◌-◌, ◌≤◌, ◌<◌, cond, Bool, true, false, List, [], ◌∷◌, ◌++◌, length, get_or, drop, Option, Some, None, Result, Ok, Err, refl, sym, ap, ap₂, subst, arith, append-nil, append_assoc, add-zero}
+use Rattle.std.proofs.Common.{◌≡◌, ◌∙◌, ℕ, zero, suc, ◌+◌, ◌-◌, ◌<◌, cond, Bool, true, false, List, [], ◌∷◌, ◌++◌, drop, Option, Some, None, Ok, Err, refl, sym, ap, subst, arith, add-zero}
 use Rattle.std.specs.List.{AllByRecursion}
-use Rattle.std.proofs.lemmas.Option.{none-some, same_Some}
-use Rattle.std.proofs.lemmas.List.{drop_all, drop_more, drop-drop}
+use Rattle.std.proofs.lemmas.Option.{none-some}
+use Rattle.std.proofs.lemmas.List.{drop-drop}
 use Rattle.avr_isa.specs.Decoded.{decoded}
 use Rattle.avr_isa.specs.Operands.{IsEncodable}
 use Rattle.avr_isa.specs.declared.instruction.Instr.{Instr}
 use Rattle.avr_isa.specs.declared.instruction.DecodeError.{DecodeError}
-use Rattle.avr_isa.proofs.TableLaws.{decoded_count}
 use Rattle.unit_code.specs.Items.{next_word}
 use Rattle.unit_code.specs.Lengths.{instruction_length}
 use Rattle.unit_code.specs.declared.form.Form.{Form}
-use Rattle.unit_code.specs.Templates.{IsForm, template}
-use Rattle.harbor_spell.specs.Front.{Found, front, may_stand}
+use Rattle.unit_code.specs.Templates.{template}
+use Rattle.harbor_spell.specs.Front.{front, may_stand}
 use Rattle.unit_code.specs.Beside.{AreWordsOf, words_in}
-use Rattle.unit_code.specs.Spelled.{BeginWith}
-use Rattle.unit_code.specs.Beside.{StandBy, Stands, form_words, forms_words, starts_from}
-use Rattle.harbor_spell.proofs.Fronts.{behind_encodable, front-none, front-stands}
+use Rattle.unit_code.specs.Beside.{StandBy, Stands, form_words, starts_from}
+use Rattle.harbor_spell.proofs.Fronts.{behind_encodable, front-stands}
 use Rattle.avr_isa.proofs.TableLaws.{decoded_length}
 use Rattle.harbor_spell.proofs.Starts.{form_words-some, instruction_length-some}
-use Rattle.harbor_verify.specs.Errors.{BeginBadly}
 use Rattle.harbor_verify.specs.Words.{followed, form_found, instructions, instructions_over, is_barred}
 use Rattle.harbor_verify.specs.Walks.{barred_from, barred_here, form_first, form_here, forms_over, permitted, start_here, starts_over, stuck_from, stuck_here}
 use Rattle.harbor_verify.proofs.ReadWords.{instructions-read}

@@ -1,14 +1,12 @@
 -- Where nothing goes astray, the templates are those of their units.
-use Rattle.std.proofs.Common.{◌≡◌, ◌≢◌, ◌∙◌, ℕ, zero, suc, ◌+◌, ◌-◌, ◌≤◌, ◌<◌, ◌==◌, cond, not, Bool, true, false, List, [], ◌∷◌, ◌++◌, length, get_or, Option, Some, None, is_some, ℤ, refl, sym, ap, ap₂, subst, arith, add-zero}
-use Rattle.std.specs.Prelude.{⊤, option_map}
+use Rattle.std.proofs.Common.{◌≡◌, ◌∙◌, ℕ, suc, ◌+◌, ◌<◌, cond, not, Bool, true, false, List, [], ◌∷◌, length, Option, Some, None, is_some, ℤ, refl, sym, ap, ap₂, subst, arith, add-zero}
+use Rattle.std.specs.Prelude.{option_map}
 use Rattle.std.specs.List.{AllByRecursion, cons_option}
-use Rattle.std.proofs.lemmas.Option.{none-some, same_Some}
 use Rattle.std.proofs.lemmas.Bool.{eqb-true}
 use Rattle.std.proofs.lemmas.List.Sums.{sum_by-cons}
 use Rattle.unit_code.specs.declared.unit.Unit.{Unit}
 use Rattle.unit_code.specs.declared.unit.Unit.TheVariants as unit
-use Rattle.unit_code.specs.declared.unit.Shape.{Shape}
-use Rattle.unit_code.specs.declared.unit.Shape.TheVariants.{Long, Short}
+use Rattle.unit_code.specs.declared.unit.Shape.TheVariants.{Long}
 use Rattle.unit_code.specs.Ends.{goes_on, leaves, long_length}
 use Rattle.unit_code.specs.Lengths.{instruction_length, spelled_length}
 use Rattle.unit_code.specs.Proper.{CanBeSkipped, IsOfKind, LeadsBelow, SkipsAreSound, SkipsTo, is_group_unit}
@@ -22,7 +20,7 @@ use Rattle.unit_code.specs.Spelling.{form_of, forms_from, start_of}
 use Rattle.unit_code.specs.Spelled.{offset_to}
 use Rattle.harbor_spell.proofs.Starts.{AreForms}
 use Rattle.unit_code.proofs.Offsets.{offset_to-reached}
-use Rattle.harbor_verify.specs.Aims.{astray, astray_from, before, can_pass, form_leaves, forms_go_on, forms_long, is_at, is_group_form, is_last, leads, long_words, shape_of, shapes_of, to_unit, unit_of, units_from, unless}
+use Rattle.harbor_verify.specs.Aims.{astray, astray_from, before, can_pass, form_leaves, forms_go_on, forms_long, is_at, is_group_form, is_last, leads, long_words, shape_of, shapes_of, unit_of, units_from, unless}
 
 neither : (a b : Option ℕ) → before a b ≡ None → (a ≡ None) × (b ≡ None)
 neither (Some x) b h = cc

@@ -1,5 +1,5 @@
 -- A form found, settled by what is behind it.
-use Rattle.std.proofs.Common.{◌≡◌, ◌∙◌, ℕ, ◌+◌, cond, Bool, true, false, List, [], ◌∷◌, Option, Some, None, ℤ, refl, sym, ap, subst}
+use Rattle.std.proofs.Common.{◌≡◌, ◌∙◌, ℕ, ◌+◌, cond, Bool, true, false, List, [], ◌∷◌, Option, Some, None, ℤ, refl, sym, ap}
 use Rattle.std.specs.Prelude.{⊤}
 use Rattle.std.proofs.lemmas.Option.{none-some, same_Some}
 use Rattle.avr_isa.specs.declared.instruction.Instr.{Instr}
@@ -12,10 +12,10 @@ use Rattle.unit_code.specs.declared.form.Form.TheVariants.{Whole, ShortSkip, Lon
 use Rattle.harbor_spell.specs.declared.opening.Opening.{Opening}
 use Rattle.harbor_spell.specs.declared.opening.Opening.TheVariants.{Alone, Skipping, Branching, Guarding, Grouping, CallingLocal, Nothing}
 use Rattle.unit_code.specs.declared.unit.Unit.TheVariants as unit
-use Rattle.unit_code.specs.declared.kinds.Standing.TheVariants.{NoInstruction, Barred, Part}
+use Rattle.unit_code.specs.declared.kinds.Standing.TheVariants.{Part}
 use Rattle.unit_code.specs.declared.kinds.Piece.TheVariants as piece
 use Rattle.harbor_spell.specs.Front.{Found, branching, called_local, calling_local, candidate, continued, front, group_end, group_from, grouping, guarded, guarding, guards, is_jump_over, is_one, is_out, is_several, itself, jump_offset, long_skip, opened, opening, over_a_jump, settled, several, skipping, turned}
-use Rattle.harbor_verify.specs.Words.{form_found, instructions, settled_form}
+use Rattle.harbor_verify.specs.Words.{form_found, settled_form}
 
 -- where a short skip was found, what is left is what is behind the first instruction
 abbrev ShortRest : List Instr → Found → Type 0

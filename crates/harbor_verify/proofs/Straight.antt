@@ -1,11 +1,10 @@
 -- Words that spell units have no refusal.
-use Rattle.std.proofs.Common.{◌≡◌, ◌≢◌, ◌∙◌, ℕ, zero, suc, ◌+◌, ◌-◌, ◌^◌, ◌≤◌, ◌<◌, ◌==◌, cond, eqb, ltb, min, not, Bool, true, false, List, [], ◌∷◌, ◌++◌, length, get_or, drop, Option, Some, None, is_some, ℤ, refl, sym, ap, ap₂, subst, arith}
-use Rattle.std.specs.Prelude.{⊤, option_map, IfOk, Result, Ok, Err}
+use Rattle.std.proofs.Common.{◌≡◌, ◌∙◌, ℕ, ◌+◌, ◌≤◌, ◌<◌, ◌==◌, cond, ltb, min, not, Bool, true, false, List, [], ◌∷◌, length, get_or, Option, Some, None, is_some, refl, sym, ap, ap₂, subst, arith}
+use Rattle.std.specs.Prelude.{option_map, IfOk, Result, Ok, Err}
 use Rattle.std.specs.List.{AllByRecursion, Contains}
-use Rattle.std.proofs.lemmas.Option.{none-some, same_Some}
+use Rattle.std.proofs.lemmas.Option.{none-some}
 use Rattle.std.proofs.lemmas.Bool.{eq-eqb, le-ltb}
 use Rattle.std.proofs.lemmas.List.{get_or_default}
-use Rattle.avr_isa.specs.Operands.{IsEncodable}
 use Rattle.avr_isa.specs.declared.instruction.Instr.{Instr}
 use Rattle.mote_layout.specs.Memory.{bank_words}
 use Rattle.unit_code.specs.declared.unit.Unit.{Unit}
@@ -17,20 +16,18 @@ use Rattle.unit_code.specs.Proper.{CanBeSkipped, IsProper, LeadsBelow, SkipsAreS
 use Rattle.unit_code.specs.Refusals.{is_empty, least_stray, lesser}
 use Rattle.unit_code.specs.Targets.{AreFirstWords, number_of, number_reached, reached}
 use Rattle.unit_code.proofs.Numbers.{number_of-at}
-use Rattle.unit_code.proofs.Strays.{IsLeastStray, least_stray-some}
 use Rattle.unit_code.specs.declared.form.Form.{Form}
-use Rattle.unit_code.specs.declared.form.Form.TheVariants.{Whole, ShortSkip, LongSkip, ShortBranch, LongBranch, Jumping, Calling}
 use Rattle.unit_code.specs.Beside.{AreWordsOf}
 use Rattle.unit_code.specs.Beside.{StandBy, starts_from}
-use Rattle.unit_code.specs.Spelling.{AreSpelledBy, Lays, Spells, form_of, forms_from, start_of}
+use Rattle.unit_code.specs.Spelling.{Lays, Spells, form_of, forms_from, start_of}
 use Rattle.unit_code.specs.Spelled.{offset_to}
-use Rattle.harbor_spell.proofs.OneSpelling.{Words16, length-forms, one_laying, places_are, starts_count, they_rise, words_encodable}
+use Rattle.harbor_spell.proofs.OneSpelling.{Words16, length-forms, one_laying, places_are, starts_count, words_encodable}
 use Rattle.unit_code.proofs.Offsets.{reached-offset_to}
 use Rattle.harbor_spell.proofs.Unique.{no_template, one_parting}
 use Rattle.harbor_verify.specs.declared.error.VerifyError.{VerifyError}
-use Rattle.harbor_verify.specs.declared.error.VerifyError.TheVariants.{Word, Guard, Target, FallsOff, Empty, TooLong, Entry}
+use Rattle.harbor_verify.specs.declared.error.VerifyError.TheVariants.{FallsOff, Empty, TooLong, Entry}
 use Rattle.harbor_verify.specs.Aims.{astray, astray_from, before, can_pass, is_at, is_group_form, is_last, leads, unless}
-use Rattle.harbor_verify.specs.Parts.{ArePartsOf}
+use Rattle.harbor_verify.specs.Parts.{ArePartsOf, IsAccepted}
 use Rattle.harbor_verify.specs.Verdict.{or_else, refusal, refusal_of_units, stray_mark, units_in}
 use Rattle.harbor_verify.specs.Walks.{barred, forms_in, starts_in, stuck}
 use Rattle.harbor_verify.specs.Words.{instructions}
@@ -186,3 +183,8 @@ module _ (sealed : Bool) where
       let lays = h.0.lays in
       (units_in words, h.0, h.1 ∙ starts_count words sealed lays.0 (units_in words) told lays.1)
   units_told words marks told (Err e) h = tt
+
+  pub accepted_told : (words marks told : List ℕ) (r : Result ℕ VerifyError)
+      → IfOk r (λ count. Spells words marks sealed (units_in words) told × (count ≡ length told)) → IfOk r (λ count. IsAccepted words told)
+  accepted_told words marks told (Ok count) h = record { sealed = sealed; marks = marks; units = units_in words; spells = h.0 }
+  accepted_told words marks told (Err e) h = tt

@@ -1,10 +1,8 @@
 -- The walk over targets finds the first place that goes astray.
-use Rattle.std.proofs.Common.{◌≡◌, ◌≢◌, ◌∙◌, ℕ, zero, suc, ◌+◌, ◌-◌, ◌≤◌, ◌<◌, ◌==◌, cond, not, Bool, true, false, List, [], ◌∷◌, ◌++◌, length, get_or, drop, Option, Some, None, is_some, ℤ, pos, refl, sym, ap, ap₂, subst, arith, ◌⊎◌, ⊎_elim, inl, inr, add-one}
-use Rattle.std.specs.Prelude.{⊤}
+use Rattle.std.proofs.Common.{◌≡◌, ◌≢◌, ◌∙◌, ℕ, ◌+◌, ◌≤◌, ◌<◌, ◌==◌, cond, not, Bool, true, false, List, [], ◌∷◌, Option, Some, None, is_some, ℤ, pos, refl, sym, ap, subst, arith, ⊎_elim, inl, inr}
 use Rattle.std.specs.List.{AllByRecursion, Contains}
 use Rattle.std.proofs.lemmas.Option.{none-some, same_Some}
-use Rattle.std.proofs.lemmas.Bool.{eqb-true, eq-eqb, cases_lt}
-use Rattle.std.proofs.lemmas.List.{get_or_default}
+use Rattle.std.proofs.lemmas.Bool.{eqb-true, eq-eqb}
 use Rattle.avr_isa.specs.declared.instruction.Instr.{Instr}
 use Rattle.avr_isa.specs.declared.instruction.Instr.TheVariants as instr
 use Rattle.unit_code.specs.declared.unit.Unit.{Unit}
@@ -16,12 +14,12 @@ use Rattle.unit_code.proofs.Astray.{no_start, start_less}
 use Rattle.unit_code.specs.declared.form.Form.{Form}
 use Rattle.unit_code.specs.declared.form.Form.TheVariants.{Whole, ShortSkip, LongSkip, ShortBranch, LongBranch, Jumping, Calling}
 use Rattle.unit_code.specs.Templates.{IsForm, branch, template}
-use Rattle.unit_code.specs.Beside.{form_words, starts_from}
+use Rattle.unit_code.specs.Beside.{form_words}
 use Rattle.unit_code.specs.Spelling.{start_of}
 use Rattle.harbor_spell.proofs.Lengths.{skip_length}
-use Rattle.harbor_spell.proofs.Starts.{AreForms, instruction_length-some}
-use Rattle.harbor_verify.specs.Aims.{astray, astray_from, before, can_pass, is_at, is_group_form, is_last, leads, unless}
-use Rattle.harbor_verify.specs.Errors.{CanPass, GoesAstray, IsGroup, IsSkip, LeadsAt, LeadsNowhere, PassesWrongly, leads_by}
+use Rattle.harbor_spell.proofs.Starts.{instruction_length-some}
+use Rattle.harbor_verify.specs.Aims.{astray, can_pass, is_at, is_group_form, is_last, leads, unless}
+use Rattle.harbor_verify.specs.Errors.{CanPass, GoesAstray, IsGroup, LeadsAt, LeadsNowhere, PassesWrongly, leads_by}
 
 -- an instruction of a whole unit leads nowhere
 still : (i : Instr) (u : Unit) → standing_of i ≡ whole u → leads_by i ≡ None

@@ -1,5 +1,5 @@
 -- How the templates end, and how long they are when each is long.
-use Rattle.std.proofs.Common.{◌≡◌, ◌≢◌, ◌∙◌, ℕ, zero, suc, ◌+◌, ◌-◌, ◌≤◌, ◌<◌, not, Bool, true, false, List, [], ◌∷◌, length, drop, refl, sym, ap, subst, arith, length-drop}
+use Rattle.std.proofs.Common.{◌≡◌, ◌∙◌, ℕ, zero, suc, ◌+◌, ◌≤◌, not, false, List, [], ◌∷◌, length, drop, refl, sym, ap, arith}
 use Rattle.std.proofs.lemmas.List.{drop_all}
 use Rattle.unit_code.specs.Ends.{goes_on, long_length}
 use Rattle.unit_code.specs.declared.form.Form.{Form}
@@ -7,7 +7,7 @@ use Rattle.harbor_verify.specs.Aims.{form_leaves, forms_go_on, forms_long, long_
 use Rattle.harbor_verify.specs.Parts.{ArePartsOf, AreResolved}
 use Rattle.harbor_verify.specs.Verdict.{units_in}
 use Rattle.harbor_verify.specs.Walks.{forms_in, starts_in}
-use Rattle.harbor_verify.proofs.NoRefusal.{AreParted, units_resolve}
+use Rattle.harbor_verify.proofs.NoRefusal.{units_resolve}
 use Rattle.harbor_verify.proofs.NthForm.{parts_stand, same_length}
 use Rattle.harbor_verify.proofs.Resolved.{Resolves}
 

@@ -1,5 +1,5 @@
 -- Why words spell no units.
-use Rattle.std.specs.Prelude.{◌≡◌, ◌≢◌, ◌⊎◌, ℕ, ◌+◌, ◌<◌, ◌≤◌, min, true, List, [], ◌∷◌, length, drop, Option, Some, None, Result, Ok, Err, Bool, ⊤, ℤ}
+use Rattle.std.specs.Prelude.{◌≡◌, ◌≢◌, ◌⊎◌, ℕ, ◌+◌, ◌<◌, min, true, List, [], ◌∷◌, drop, Option, Some, None, Result, Ok, Err, Bool, ⊤, ℤ}
 use Rattle.std.specs.List.{Contains}
 use Rattle.avr_isa.specs.Decoded.{decoded}
 use Rattle.avr_isa.specs.declared.instruction.Instr.{Instr}

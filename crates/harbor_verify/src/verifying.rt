@@ -5,7 +5,7 @@ ghost use Rattle.std.specs.List.{AllByRecursion};
 ghost use Rattle.unit_code.specs.declared.unit.Unit.{Unit};
 ghost use Rattle.unit_code.specs.Spelling.{Spells};
 ghost use Rattle.harbor_verify.specs.Law.{IsFirst};
-ghost use Rattle.harbor_verify.specs.Parts.{ArePartsOf};
+ghost use Rattle.harbor_verify.specs.Parts.{ArePartsOf, IsAccepted};
 ghost use Rattle.harbor_verify.specs.Verdict.{refusal, refusal_of_parts, units_in};
 
 use crate::aims::first_astray;
@@ -28,6 +28,7 @@ pub fn verify(
     requires { length code.now ≤ 65535 }
     ensures ok { IfOk result (λ count. (units : List Unit) × Spells code.now marks.now sealed units starts.new
         × (count ≡ length units)) }
+    ensures accepted { IfOk result (λ _. IsAccepted code.now starts.new) }
 
     // There are such units exactly at Ok, and no others.
     ensures only { (units : List Unit) (places : List ℕ) → Spells code.now marks.now sealed units places

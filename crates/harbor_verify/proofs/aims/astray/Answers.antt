@@ -1,8 +1,4 @@
-use Rattle.std.proofs.Common.{◌≡◌, ◌∙◌, ◌+◌, ◌<◌, ◌≤◌, not, false, drop, length, ap, sym, arith, rules}
-use Rattle.unit_code.specs.Spelling.{start_of}
-use Rattle.harbor_verify.specs.Aims.{unless}
-use Rattle.harbor_verify.specs.Walks.{forms_in}
-use Rattle.harbor_verify.proofs.NthForm.{astray_last, astray_more, first_words, is_last-at, is_last-before}
+use Rattle.harbor_verify.proofs.NthForm.{first_words}
 use Rattle.harbor_verify.proofs.aims.astray.Goals as goal
 
 pub leads-requires : goal.leads-requires

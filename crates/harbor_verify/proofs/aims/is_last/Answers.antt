@@ -1,7 +1,3 @@
-use Rattle.std.proofs.Common.{◌≡◌, ◌∙◌, ◌<◌, ◌≤◌, ◌≢◌, true, false, eqb, cond, Bool, length, drop, ap, sym, arith, refl, eq-eqb}
-use Rattle.std.proofs.lemmas.Bool.{eqb-true}
-use Rattle.harbor_verify.specs.Aims.{is_last}
-use Rattle.harbor_verify.specs.Walks.{forms_in}
 use Rattle.harbor_verify.proofs.NthForm.{is_last-tested}
 use Rattle.harbor_verify.proofs.aims.is_last.Goals as goal
 

@@ -1,4 +1,4 @@
-use Rattle.std.proofs.Common.{◌≡◌, ◌∙◌, ◌≤◌, ℕ, List, None, length, sym, ap, subst, arith, rules}
+use Rattle.std.proofs.Common.{◌≡◌, ◌∙◌, ℕ, List, None, length, sym, ap, subst, arith}
 use Rattle.unit_code.specs.Spelling.{Spells}
 use Rattle.harbor_verify.specs.Parts.{ArePartsOf}
 use Rattle.harbor_verify.specs.Verdict.{refusal, units_in}

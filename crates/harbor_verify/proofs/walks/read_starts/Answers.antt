@@ -1,4 +1,4 @@
-use Rattle.std.proofs.Common.{◌≡◌, ◌∙◌, ◌+◌, ◌-◌, ◌<◌, ◌≤◌, ◌++◌, [], ◌∷◌, List, ℕ, ap, append-nil, append_assoc, length, length-append, drop, Some, refl, sym, subst, arith, rules}
+use Rattle.std.proofs.Common.{◌≡◌, ◌∙◌, ◌+◌, ◌-◌, ◌<◌, ◌++◌, [], ◌∷◌, ℕ, ap, append_assoc, length, length-append, drop, Some, refl, sym, arith, rules}
 use Rattle.unit_code.specs.Beside.{form_words}
 use Rattle.harbor_verify.specs.Walks.{form_first, permitted, starts_in, starts_over, stuck, stuck_from}
 use Rattle.harbor_verify.proofs.Walked.{passed, permitted_stands, starts_some, stuck_none, stuck_some}
