@@ -1,0 +1,5 @@
+pub mod Shorter
+pub mod Distances
+pub mod Kept
+pub mod Chosen
+pub mod Ends
