@@ -20,14 +20,14 @@ use Rattle.harbor_short.proofs.Distances.{distances_stay, starts_rise}
 -- the offset of a branch as a distance
 pub in_reach : (at word : ℕ) → IsBranchOffset (offset_to at word) → (at ≤ word + 63) × (word ≤ at + 64)
 in_reach at word = elim (ltb at word) as (λ t. ltb at word ≡ t → IsBranchOffset (cond t (pos (word - at - 1)) (negsuc (at - word))) → (at ≤ word + 63) × (word ≤ at + 64)) [
-      | true ↦ λ e h. let l : at < word = ltb-true e in (omega arith, grind (arith, ints))
-      | false ↦ λ e h. let l : word ≤ at = ltb-false e in (grind (arith, ints), omega arith)
+      | true ↦ λ e h. let l : at < word = ltb-true at word e in (omega arith, grind (arith, ints))
+      | false ↦ λ e h. let l : word ≤ at = ltb-false at word e in (grind (arith, ints), omega arith)
     ] refl
 
 pub reach_in : (at word : ℕ) → at ≤ word + 63 → word ≤ at + 64 → IsBranchOffset (offset_to at word)
 reach_in at word low high = elim (ltb at word) as (λ t. ltb at word ≡ t → IsBranchOffset (cond t (pos (word - at - 1)) (negsuc (at - word)))) [
-      | true ↦ λ e. let l : at < word = ltb-true e in grind (arith, ints)
-      | false ↦ λ e. let l : word ≤ at = ltb-false e in grind (arith, ints)
+      | true ↦ λ e. let l : at < word = ltb-true at word e in grind (arith, ints)
+      | false ↦ λ e. let l : word ≤ at = ltb-false at word e in grind (arith, ints)
     ] refl
 
 -- a unit reaches at least those that it reached before

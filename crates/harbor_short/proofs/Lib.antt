@@ -3,3 +3,5 @@ pub mod Distances
 pub mod Kept
 pub mod Chosen
 pub mod Ends
+pub mod Measured
+pub mod Turning

@@ -1,5 +1,6 @@
 -- A round makes shapes short and none long.
 use Rattle.std.proofs.Common.{◌≡◌, ◌∙◌, ◌↔◌, ◌⊎◌, ⊎_elim, inl, inr, ℕ, zero, suc, ◌+◌, ◌<◌, ◌≤◌, Bool, true, false, List, [], ◌∷◌, length, refl, sym, ap, ap₂, subst, arith}
+use Rattle.std.specs.Prelude.{⊤}
 use Rattle.unit_code.specs.declared.unit.Unit.{Unit}
 use Rattle.unit_code.specs.declared.unit.Unit.TheVariants as unit
 use Rattle.unit_code.specs.declared.unit.Shape.{Shape}
@@ -11,7 +12,7 @@ use Rattle.harbor_short.specs.Rounds.{AreTurned, BecomesShort, IsRound}
 
 -- what was short is short
 abbrev pub AreShorter : List Shape → List Shape → Type 0
-AreShorter [] [] = Unit {0}
+AreShorter [] [] = ⊤
 AreShorter [] (t ∷ ts) = ⊥
 AreShorter (s ∷ ss) [] = ⊥
 AreShorter (s ∷ ss) (t ∷ ts) = (s ≡ Short → t ≡ Short) × AreShorter ss ts
@@ -82,3 +83,7 @@ same_longs (Long ∷ ss) (Long ∷ ts) h = ⊎_elim (λ (e : ts ≡ ss). inl (ap
 same_longs (Long ∷ ss) (Short ∷ ts) h = inr (omega (arith, fewer_longs ss ts h.1))
 same_longs (Short ∷ ss) (Long ∷ ts) h = absurd (long_is_not_short (h.0 refl))
 same_longs (Short ∷ ss) (Short ∷ ts) h = ⊎_elim (λ (e : ts ≡ ss). inl (ap (λ (xs : List Shape). Short ∷ xs) e)) (λ (l : longs ts < longs ss). inr l) (same_longs ss ts h.1)
+
+pub long_least : (u : Unit) (s : Shape) → spelled_length u s ≤ spelled_length u Long
+long_least u Long = omega arith
+long_least u Short = short_least u

@@ -9,7 +9,7 @@ ghost use Rattle.unit_code.specs.Proper.{IsProper, LeadsBelow};
 ghost use Rattle.unit_code.specs.Spelled.{offset_to};
 ghost use Rattle.unit_code.specs.Spelling.{AreReadSo, AreShapesOf, begins_with_jump, begins_with_single, is_single, starts_of};
 ghost use Rattle.harbor_short.specs.Longs.{longs};
-ghost use Rattle.harbor_short.specs.Rounds.{AreChosen, BecomesShort, IsRound};
+ghost use Rattle.harbor_short.specs.Rounds.{AreChosen, BecomesShort, IsRound, all_long};
 
 use mote_base::NoMemory;
 use std::alloc::Global;
@@ -31,11 +31,21 @@ pub fn choose(alloc: Global, units: &[Unit]) -> Result<Vec<Shape>, NoMemory>
 {
     let mut shapes = vec![in alloc; Shape::Long; units.len()]?;
     let mut starts = vec![in alloc; 0; units.len()]?;
-    measure(units, &shapes, &mut starts);
-    while shorten(units, &starts, &mut shapes) {
-        measure(units, &shapes, &mut starts);
-    }
+    make_rounds(units, &mut starts, &mut shapes);
     Ok(shapes)
+}
+
+/// Makes rounds, from all long, until one changes nothing. The starts are a place for those of the present shapes.
+fn make_rounds(units: &[Unit], starts: &mut [u16], shapes: &mut [Shape])
+    requires long { shapes.old ≡ all_long units.now }
+    requires placed { length starts.old ≡ length units.now }
+    requires proper { (sealed : Bool) × IsProper units.now sealed }
+    ensures { AreChosen units.now shapes.new }
+{
+    measure(units, shapes, starts);
+    while shorten(units, starts, shapes) {
+        measure(units, shapes, starts);
+    }
 }
 
 /// Sets where the templates of units in these shapes start.
