@@ -13,7 +13,7 @@ use Rattle.unit_code.specs.declared.form.Form.{Form}
 use Rattle.unit_code.specs.declared.form.Form.TheVariants.{Whole, ShortSkip, LongSkip, ShortBranch, LongBranch, Jumping, Calling}
 use Rattle.unit_code.specs.Templates.{IsForm, MayStandIn, template}
 use Rattle.unit_code.specs.Loads.{is_load}
-use Rattle.harbor_spell.specs.Front.{Found, candidate, front, is_several, may_stand, permitted, settled}
+use Rattle.harbor_spell.specs.Front.{Found, candidate, front, is_several, may_stand, settled}
 use Rattle.unit_code.specs.Beside.{BeginsWithSeveral, IsReadSo, Stands}
 use Rattle.harbor_spell.proofs.Candidates.{AreBegun, Begins, IsCandidate, candidate-is, candidate_begun}
 use Rattle.harbor_spell.proofs.Openings.{passed, passed_on}
@@ -38,7 +38,7 @@ several_by is (Some (f, rest)) h e = (f, rest, h.kind, leb-true 2 (length (templ
 pub several-from : (is : List Instr) → AllByRecursion IsEncodable is → is_several (candidate is) ≡ true → BeginsWithSeveral is
 several-from is enc e = several_by is (candidate is) (candidate_begun is enc) e
 
-read_is_candidate : (f : Form) (rest : List Instr) → IsReadSo f rest → IsCandidate f rest
+pub read_is_candidate : (f : Form) (rest : List Instr) → IsReadSo f rest → IsCandidate f rest
 read_is_candidate (ShortSkip i) rest h = h.0
 read_is_candidate (ShortBranch set bit offset) rest h = h
 read_is_candidate _ rest h = tt
@@ -64,7 +64,7 @@ pub behind_encodable : (sealed : Bool) (f : Form) (is rest : List Instr) → All
 behind_encodable sealed f is rest enc h = let P : List Instr → Type 0 = AllByRecursion IsEncodable in all_behind (template f) rest (subst P h.words enc)
 
 -- what the test says of a form
-may_stand-true : (sealed : Bool) (f : Form) → MayStandIn sealed f → may_stand sealed f ≡ true
+pub may_stand-true : (sealed : Bool) (f : Form) → MayStandIn sealed f → may_stand sealed f ≡ true
 may_stand-true sealed (Whole (unit.Plain i)) h = ap not h
 may_stand-true sealed (Whole (unit.Load i)) h = h
 may_stand-true sealed _ h = refl
@@ -73,19 +73,18 @@ not-true : (b : Bool) → not b ≡ true → b ≡ false
 not-true true e = cc
 not-true false e = refl
 
-may_stand-from : (sealed : Bool) (f : Form) → may_stand sealed f ≡ true → MayStandIn sealed f
+pub may_stand-from : (sealed : Bool) (f : Form) → may_stand sealed f ≡ true → MayStandIn sealed f
 may_stand-from sealed (Whole (unit.Plain i)) e = not-true (sealed && is_load i) e
 may_stand-from sealed (Whole (unit.Load i)) e = e
 may_stand-from sealed _ e = tt
 
 -- a template that stands there is the front
-pub front-is : (sealed : Bool) (f : Form) (is rest : List Instr) → AllByRecursion IsEncodable is → Stands sealed f is rest → front sealed is ≡ Some (f, rest)
+pub front-is : (sealed : Bool) (f : Form) (is rest : List Instr) → AllByRecursion IsEncodable is → Stands sealed f is rest → front is ≡ Some (f, rest)
 unfolding front
 front-is sealed f is rest enc h =
-    ap (λ l. permitted sealed (settled (candidate l))) h.words
-    ∙ ap (λ o. permitted sealed (settled o)) (candidate-is f rest h.kind (read_is_candidate f rest h.read))
-    ∙ ap (permitted sealed) (settled_form f rest (behind_encodable sealed f is rest enc h) h.read)
-    ∙ passed_on {A = Found} (may_stand sealed f) (Some (f, rest)) None (may_stand-true sealed f h.guarded)
+    ap (λ l. settled (candidate l)) h.words
+    ∙ ap settled (candidate-is f rest h.kind (read_is_candidate f rest h.read))
+    ∙ settled_form f rest (behind_encodable sealed f is rest enc h) h.read
 
 -- The instructions begin with the template of the form, which is read so, in whatever image.
 record IsRead (f : Form) (is rest : List Instr) : Type 0 where
@@ -111,29 +110,31 @@ settled_stands is (Some (LongBranch set bit offset, rest)) h = record { kind = h
 settled_stands is (Some (Jumping offset, rest)) h = record { kind = h.kind; words = h.words; read = tt }
 settled_stands is (Some (Calling offset, rest)) h = record { kind = h.kind; words = h.words; read = tt }
 
--- and the front stands there
-abbrev pub DoesStand : Bool → List Instr → Found → Type 0
-DoesStand sealed is None = ⊤
-DoesStand sealed is (Some (f, rest)) = Stands sealed f is rest
-
-permitted_stands : (sealed : Bool) (is : List Instr) (o : Found) → DoesRead is o → DoesStand sealed is (permitted sealed o)
-permitted_stands sealed is None h = tt
-permitted_stands sealed is (Some (f, rest)) h =
-    elim (may_stand sealed f) as (λ t. may_stand sealed f ≡ t → DoesStand sealed is (cond {A = Found} t (Some (f, rest)) None)) [
-      | true ↦ λ e. record { kind = h.kind; guarded = may_stand-from sealed f e; words = h.words; read = h.read }
-      | false ↦ λ e. tt
-    ] refl
-
-pub front_stands : (sealed : Bool) (is : List Instr) → AllByRecursion IsEncodable is → DoesStand sealed is (front sealed is)
+front_reads : (is : List Instr) → AllByRecursion IsEncodable is → DoesRead is (front is)
 unfolding front
-front_stands sealed is enc = permitted_stands sealed is (settled (candidate is)) (settled_stands is (candidate is) (candidate_begun is enc))
+front_reads is enc = settled_stands is (candidate is) (candidate_begun is enc)
 
-pub front-stands : (sealed : Bool) (is : List Instr) (f : Form) (rest : List Instr) → AllByRecursion IsEncodable is → front sealed is ≡ Some (f, rest) → Stands sealed f is rest
-front-stands sealed is f rest enc e = subst (DoesStand sealed is) e (front_stands sealed is enc)
+-- and the front stands there, in an image in which it may
+pub front-stands : (sealed : Bool) (is : List Instr) (f : Form) (rest : List Instr) → AllByRecursion IsEncodable is → front is ≡ Some (f, rest)
+    → may_stand sealed f ≡ true → Stands sealed f is rest
+front-stands sealed is f rest enc e may =
+    let h = subst (DoesRead is) e (front_reads is enc) in
+    record { kind = h.kind; guarded = may_stand-from sealed f may; words = h.words; read = h.read }
 
 -- where there is no front, no template stands
-pub front-none : (sealed : Bool) (is : List Instr) (f : Form) (rest : List Instr) → AllByRecursion IsEncodable is → front sealed is ≡ None → ¬ Stands sealed f is rest
+pub front-none : (sealed : Bool) (is : List Instr) (f : Form) (rest : List Instr) → AllByRecursion IsEncodable is → front is ≡ None → ¬ Stands sealed f is rest
 front-none sealed is f rest enc e h = none-some (f, rest) (sym e ∙ front-is sealed f is rest enc h)
+
+-- and none stands where the front may not
+pub front-barred : (sealed : Bool) (is : List Instr) (f g : Form) (rest behind : List Instr) → AllByRecursion IsEncodable is → front is ≡ Some (f, rest)
+    → may_stand sealed f ≡ false → ¬ Stands sealed g is behind
+front-barred sealed is f g rest behind enc e none h =
+    let x : Form × List Instr = (f, rest) in
+    let y : Form × List Instr = (g, behind) in
+    let same : x ≡ y = same_Some x y (sym e ∙ front-is sealed g is behind enc h) in
+    let form : f ≡ g = ap (λ z. z.0) same in
+    let may : may_stand sealed f ≡ true = ap (may_stand sealed) form ∙ may_stand-true sealed g h.guarded in
+    absurd (cc)
 
 whole_some : (u : Unit) → IsForm (Whole u) → 0 < length (template (Whole u))
 whole_some (unit.Plain i) h = omega arith

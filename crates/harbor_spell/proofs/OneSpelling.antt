@@ -28,7 +28,7 @@ use Rattle.harbor_spell.proofs.Unique.{one_parting, one_reading}
 abbrev pub Words16 : List ℕ → Type 0
 Words16 words = AllByRecursion (λ w. w < 2 ^ 16) words
 
-next_small : (ws : List ℕ) → Words16 ws → IfSome (next_word ws) (λ k. k < 2 ^ 16)
+pub next_small : (ws : List ℕ) → Words16 ws → IfSome (next_word ws) (λ k. k < 2 ^ 16)
 next_small [] h = tt
 next_small (w ∷ ws) h = h.0
 

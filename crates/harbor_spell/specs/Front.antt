@@ -154,16 +154,12 @@ settled None = None
 settled (Some (ShortSkip i, behind)) = if is_several (candidate behind) then None else Some (ShortSkip i, behind)
 settled (Some found) = Some found
 
+-- The template that comes first, in whatever image.
+unfoldable pub front : List Instr → Found
+front is = settled (candidate is)
+
 -- whether the form may stand in an image that is sealed or not: a load has its guard exactly in a sealed one
 abbrev pub may_stand : Bool → Form → Bool
 may_stand sealed (Whole (unit.Plain i)) = not (sealed && is_load i)
 may_stand sealed (Whole (unit.Load i)) = sealed
 may_stand sealed _ = true
-
-abbrev pub permitted : Bool → Found → Found
-permitted sealed None = None
-permitted sealed (Some (f, behind)) = if may_stand sealed f then Some (f, behind) else None
-
--- The template that comes first in an image that is sealed or not.
-unfoldable pub front : Bool → List Instr → Found
-front sealed is = permitted sealed (settled (candidate is))

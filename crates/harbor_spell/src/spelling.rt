@@ -2,7 +2,7 @@
 
 ghost use Rattle.std.specs.Prelude.{◌≡◌, ◌+◌, ◌<◌, ◌≤◌, Bool, List, Some, [], ◌∷◌, ◌++◌, length, slice_get};
 ghost use Rattle.std.specs.List.{AllByRecursion};
-ghost use Rattle.avr_isa.specs.Operands.{IsEncodable};
+ghost use Rattle.avr_isa.specs.Operands.{IsBranchOffset, IsEncodable};
 ghost use Rattle.avr_isa.specs.declared.instruction.Instr.{Instr};
 ghost use Rattle.unit_code.specs.declared.unit.Shape.{Shape};
 ghost use Rattle.unit_code.specs.declared.unit.Unit.{Unit};
@@ -42,12 +42,11 @@ fn spell_form(form: &Form, out: &mut Template)
     requires room { form_words form.now ≤ 5 }
     ensures { AreWordsOf (template form.now) out.new.items }
 {
-    let over = Instr::Rjmp(1);
     match *form {
         Form::Whole(unit) => spell_whole(&unit, out),
         Form::ShortSkip(skip) => spell(&[skip], out),
-        Form::LongSkip(skip, offset) => spell(&[skip, over, Instr::Rjmp(offset)], out),
-        Form::ShortBranch { set, bit, offset } => spell(&[branch(set, bit, offset as i8)], out),
+        Form::LongSkip(skip, offset) => spell(&[skip, Instr::Rjmp(1), Instr::Rjmp(offset)], out),
+        Form::ShortBranch { set, bit, offset } => spell(&[branch(set, bit, offset)], out),
         Form::LongBranch { set, bit, offset } => {
             spell(&[branch(!set, bit, 1), Instr::Rjmp(offset)], out)
         }
@@ -90,9 +89,11 @@ fn enter(entry: Entry) -> Instr
 }
 
 /// The branch where a bit of SREG is 1, or where it is 0.
-fn branch(set: bool, bit: u8, offset: i8) -> Instr
+fn branch(set: bool, bit: u8, offset: i16) -> Instr
+    requires { IsBranchOffset offset }
     ensures { result ≡ branch set bit offset }
 {
+    let offset = offset as i8;
     if set {
         Instr::Brbs(bit, offset)
     } else {
