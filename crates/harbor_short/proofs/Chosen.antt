@@ -1,9 +1,8 @@
 -- The rounds come to shapes, and to one list of them.
-use Rattle.std.proofs.Common.{◌≡◌, ◌∙◌, ◌⊎◌, ⊎_elim, inl, inr, ℕ, zero, suc, ◌+◌, ◌<◌, ◌≤◌, List, [], ◌∷◌, length, replicate, refl, sym, ap, subst, arith}
+use Rattle.std.proofs.Common.{◌≡◌, ◌∙◌, ◌⊎◌, ⊎_elim, ℕ, zero, suc, ◌+◌, ◌≤◌, List, [], ◌∷◌, length, refl, sym, ap, subst, arith}
 use Rattle.std.specs.List.{AllByRecursion}
 use Rattle.unit_code.specs.declared.unit.Unit.{Unit}
 use Rattle.unit_code.specs.declared.unit.Shape.{Shape}
-use Rattle.unit_code.specs.declared.unit.Shape.TheVariants.{Long, Short}
 use Rattle.unit_code.specs.Proper.{LeadsBelow}
 use Rattle.unit_code.specs.Spelling.{AreReadSo, AreShapesFrom, AreShapesOf, starts_of}
 use Rattle.harbor_short.specs.Longs.{longs}
@@ -28,17 +27,17 @@ stays us n (suc m) first a b still h order k =
     let cases : (n ≤ m) ⊎ (n ≡ suc m) = grind arith in
     let P : List Shape → Type 0 = λ x. IsRound us x b in
     ⊎_elim
-      (λ (less : n ≤ m). one_round us a b a (subst P (stays us n m first a k.0 still h less k.1) k.2) still)
-      (λ (e : n ≡ suc m). let Q : ℕ → Type 0 = λ x. AreRounds us x first a in one_end us (suc m) first b a k (subst Q e h))
-      cases
+    (λ (less : n ≤ m). one_round us a b a (subst P (stays us n m first a k.0 still h less k.1) k.2) still)
+    (λ (e : n ≡ suc m). let Q : ℕ → Type 0 = λ x. AreRounds us x first a in one_end us (suc m) first b a k (subst Q e h))
+    cases
 
 pub one_choice : (us : List Unit) (a b : List Shape) → AreChosen us a → AreChosen us b → a ≡ b
 one_choice us a b h k =
     let cases : (h.rounds ≤ k.rounds) ⊎ (k.rounds ≤ h.rounds) = grind arith in
     ⊎_elim
-      (λ (less : h.rounds ≤ k.rounds). sym (stays us h.rounds k.rounds (all_long us) a b h.still h.come less k.come))
-      (λ (less : k.rounds ≤ h.rounds). stays us k.rounds h.rounds (all_long us) b a k.still k.come less h.come)
-      cases
+    (λ (less : h.rounds ≤ k.rounds). sym (stays us h.rounds k.rounds (all_long us) a b h.still h.come less k.come))
+    (λ (less : k.rounds ≤ h.rounds). stays us k.rounds h.rounds (all_long us) b a k.still k.come less h.come)
+    cases
 
 longs_may : (starts : List ℕ) (i : ℕ) (us : List Unit) → AreShapesFrom starts i us (all_long us)
 longs_may starts i [] = tt

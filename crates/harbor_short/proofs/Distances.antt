@@ -1,8 +1,7 @@
 -- Distances between starts, as numbers of words.
-use Rattle.std.proofs.Common.{◌≡◌, ◌∙◌, ℕ, zero, suc, ◌+◌, ◌<◌, ◌≤◌, List, [], ◌∷◌, length, get_or, refl, sym, ap, subst, arith}
+use Rattle.std.proofs.Common.{◌≡◌, ℕ, zero, suc, ◌+◌, ◌<◌, ◌≤◌, List, [], ◌∷◌, length, get_or, refl, ap, arith}
 use Rattle.unit_code.specs.declared.unit.Unit.{Unit}
 use Rattle.unit_code.specs.declared.unit.Shape.{Shape}
-use Rattle.unit_code.specs.declared.unit.Shape.TheVariants.{Long, Short}
 use Rattle.unit_code.specs.Lengths.{spelled_length}
 use Rattle.unit_code.specs.Spelling.{start_of, starts_after, starts_of}
 use Rattle.harbor_short.specs.Laws.{DistancesStay}

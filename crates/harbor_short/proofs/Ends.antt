@@ -1,5 +1,5 @@
 -- The rounds come to an end.
-use Rattle.std.proofs.Common.{◌≡◌, ◌∙◌, ◌↔◌, ◌⊎◌, ⊎_elim, inl, inr, ℕ, zero, suc, ◌+◌, ◌<◌, ◌≤◌, Bool, true, false, List, [], ◌∷◌, length, refl, sym, ap, subst, arith}
+use Rattle.std.proofs.Common.{◌≡◌, ◌↔◌, ◌⊎◌, ⊎_elim, inl, inr, ℕ, zero, suc, ◌+◌, ◌<◌, ◌≤◌, Bool, true, false, List, [], ◌∷◌, length, refl, subst, arith}
 use Rattle.avr_isa.specs.Operands.{IsBranchOffset}
 use Rattle.unit_code.specs.declared.unit.Unit.{Unit}
 use Rattle.unit_code.specs.declared.unit.Unit.TheVariants as unit
@@ -31,10 +31,10 @@ reach_settled at word =
     let low : (at ≤ word + 63) ⊎ (word + 63 < at) = grind arith in
     let high : (word ≤ at + 64) ⊎ (at + 64 < word) = grind arith in
     ⊎_elim
-      (λ (a : at ≤ word + 63). ⊎_elim
-        (λ (b : word ≤ at + 64). inl (reach_in at word a b))
-        (λ (b : at + 64 < word). inr (λ z. let r : (at ≤ word + 63) × (word ≤ at + 64) = in_reach at word z in absurd (omega (arith, r.1, b)))) high)
-      (λ (a : word + 63 < at). inr (λ z. let r : (at ≤ word + 63) × (word ≤ at + 64) = in_reach at word z in absurd (omega (arith, r.0, a)))) low
+    (λ (a : at ≤ word + 63). ⊎_elim
+    (λ (b : word ≤ at + 64). inl (reach_in at word a b))
+    (λ (b : at + 64 < word). inr (λ z. let r : (at ≤ word + 63) × (word ≤ at + 64) = in_reach at word z in absurd (omega (arith, r.1, b)))) high)
+    (λ (a : word + 63 < at). inr (λ z. let r : (at ≤ word + 63) × (word ≤ at + 64) = in_reach at word z in absurd (omega (arith, r.0, a)))) low
 
 becomes_settled : (starts : List ℕ) (at : ℕ) (u : Unit) (us : List Unit) (ss : List Shape) → Settled (BecomesShort starts at u us ss)
 becomes_settled starts at (unit.Skip x) us ss =
@@ -47,7 +47,7 @@ some_shape : (P : Type 0) (s : Shape) → Settled P → (t : Shape) × ((t ≡ S
 some_shape P Short h = (Short, (λ e. inl refl, λ o. refl))
 some_shape P Long h =
     ⊎_elim (λ (p : P). (Short, (λ e. inr p, λ o. refl)))
-      (λ (n : P → ⊥). (Long, (λ e. absurd (cc), λ o. ⊎_elim (λ (e : Long ≡ Short). e) (λ (p : P). absurd (n p)) o))) h
+    (λ (n : P → ⊥). (Long, (λ e. absurd (cc), λ o. ⊎_elim (λ (e : Long ≡ Short). e) (λ (p : P). absurd (n p)) o))) h
 
 some_turn : (starts : List ℕ) (i : ℕ) (us : List Unit) (ss : List Shape) → length ss ≡ length us → (ts : List Shape) × AreTurned starts i us ss ts
 some_turn starts i [] [] e = ([], tt)
@@ -63,16 +63,16 @@ some_from us zero n a left few come =
     let next : (ts : List Shape) × IsRound us a ts = some_turn (starts_of us a) 0 us a (rounds_length us n a come) in
     let P : List Shape → Type 0 = λ x. IsRound us a x in
     ⊎_elim
-      (λ (e : next.0 ≡ a). (a, record { rounds = n; few = omega (arith, few); come = come; still = subst P e next.1 }))
-      (λ (less : longs next.0 < longs a). absurd (omega (arith, less, left)))
-      (same_longs a next.0 (turned_shorter (starts_of us a) 0 us a next.0 next.1))
+    (λ (e : next.0 ≡ a). (a, record { rounds = n; few = omega (arith, few); come = come; still = subst P e next.1 }))
+    (λ (less : longs next.0 < longs a). absurd (omega (arith, less, left)))
+    (same_longs a next.0 (turned_shorter (starts_of us a) 0 us a next.0 next.1))
 some_from us (suc k) n a left few come =
     let next : (ts : List Shape) × IsRound us a ts = some_turn (starts_of us a) 0 us a (rounds_length us n a come) in
     let P : List Shape → Type 0 = λ x. IsRound us a x in
     ⊎_elim
-      (λ (e : next.0 ≡ a). (a, record { rounds = n; few = omega (arith, few); come = come; still = subst P e next.1 }))
-      (λ (less : longs next.0 < longs a). some_from us k (suc n) next.0 (omega (arith, less, left)) (omega (arith, less, few)) (a, come, next.1))
-      (same_longs a next.0 (turned_shorter (starts_of us a) 0 us a next.0 next.1))
+    (λ (e : next.0 ≡ a). (a, record { rounds = n; few = omega (arith, few); come = come; still = subst P e next.1 }))
+    (λ (less : longs next.0 < longs a). some_from us k (suc n) next.0 (omega (arith, less, left)) (omega (arith, less, few)) (a, come, next.1))
+    (same_longs a next.0 (turned_shorter (starts_of us a) 0 us a next.0 next.1))
 
 pub some_choice : (us : List Unit) → (shapes : List Shape) × AreChosen us shapes
 some_choice us = some_from us (length us) 0 (all_long us) (omega (arith, all_longs us)) (omega (arith, all_longs us)) refl

@@ -1,8 +1,7 @@
 -- What may be short may be short after a round, and is read as short.
-use Rattle.std.proofs.Common.{◌≡◌, ◌∙◌, ◌↔◌, ◌⊎◌, ⊎_elim, inl, inr, ℕ, zero, suc, ◌+◌, ◌-◌, ◌<◌, ◌≤◌, ◌&&◌, not, cond, ltb, ℤ, pos, negsuc, ◌≤ℤ◌, Bool, true, false, List, [], ◌∷◌, length, refl, sym, ap, ap₂, subst, arith}
+use Rattle.std.proofs.Common.{◌≡◌, ◌↔◌, ◌⊎◌, ⊎_elim, inl, inr, ℕ, ◌+◌, ◌-◌, ◌<◌, ◌≤◌, ◌&&◌, not, cond, ltb, pos, negsuc, Bool, true, false, List, [], ◌∷◌, length, refl, ap, ap₂, subst, arith}
 use Rattle.std.specs.List.{AllByRecursion}
 use Rattle.std.proofs.lemmas.Bool.{ltb-true, ltb-false}
-use Rattle.std.proofs.lemmas.Bool.Decides.{nat_tests}
 use Rattle.std.proofs.lemmas.Int.{ints}
 use Rattle.avr_isa.specs.Operands.{IsBranchOffset}
 use Rattle.unit_code.specs.declared.unit.Unit.{Unit}
@@ -11,8 +10,7 @@ use Rattle.unit_code.specs.declared.unit.Shape.{Shape}
 use Rattle.unit_code.specs.declared.unit.Shape.TheVariants.{Long, Short}
 use Rattle.unit_code.specs.Proper.{LeadsBelow}
 use Rattle.unit_code.specs.Spelled.{offset_to}
-use Rattle.unit_code.specs.Spelling.{AreReadSo, AreShapesFrom, AreShapesOf, MayHave, begins_with_jump, begins_with_single, is_single, is_short, reads_short, start_of, starts_of}
-use Rattle.harbor_short.specs.Laws.{DistancesStay}
+use Rattle.unit_code.specs.Spelling.{AreReadSo, AreShapesFrom, AreShapesOf, MayHave, begins_with_jump, begins_with_single, is_single, reads_short, start_of, starts_of}
 use Rattle.harbor_short.specs.Rounds.{AreTurned, BecomesShort, IsRound}
 use Rattle.harbor_short.proofs.Shorter.{AreShorter, turned_length, turned_shorter}
 use Rattle.harbor_short.proofs.Distances.{distances_stay, starts_rise}
@@ -20,15 +18,15 @@ use Rattle.harbor_short.proofs.Distances.{distances_stay, starts_rise}
 -- the offset of a branch as a distance
 pub in_reach : (at word : ℕ) → IsBranchOffset (offset_to at word) → (at ≤ word + 63) × (word ≤ at + 64)
 in_reach at word = elim (ltb at word) as (λ t. ltb at word ≡ t → IsBranchOffset (cond t (pos (word - at - 1)) (negsuc (at - word))) → (at ≤ word + 63) × (word ≤ at + 64)) [
-      | true ↦ λ e h. let l : at < word = ltb-true at word e in (omega arith, grind (arith, ints))
-      | false ↦ λ e h. let l : word ≤ at = ltb-false at word e in (grind (arith, ints), omega arith)
-    ] refl
+  | true ↦ λ e h. let l : at < word = ltb-true at word e in (omega arith, grind (arith, ints))
+  | false ↦ λ e h. let l : word ≤ at = ltb-false at word e in (grind (arith, ints), omega arith)
+] refl
 
 pub reach_in : (at word : ℕ) → at ≤ word + 63 → word ≤ at + 64 → IsBranchOffset (offset_to at word)
 reach_in at word low high = elim (ltb at word) as (λ t. ltb at word ≡ t → IsBranchOffset (cond t (pos (word - at - 1)) (negsuc (at - word)))) [
-      | true ↦ λ e. let l : at < word = ltb-true at word e in grind (arith, ints)
-      | false ↦ λ e. let l : word ≤ at = ltb-false at word e in grind (arith, ints)
-    ] refl
+  | true ↦ λ e. let l : at < word = ltb-true at word e in grind (arith, ints)
+  | false ↦ λ e. let l : word ≤ at = ltb-false at word e in grind (arith, ints)
+] refl
 
 -- a unit reaches at least those that it reached before
 abbrev pub Reach : ℕ → List ℕ → List ℕ → Type 0
@@ -40,15 +38,15 @@ reach_kept us ss ts h i j inside within near =
     let now : (start_of (starts_of us ss) i ≤ start_of (starts_of us ss) j + 63) × (start_of (starts_of us ss) j ≤ start_of (starts_of us ss) i + 64) = in_reach (start_of (starts_of us ss) i) (start_of (starts_of us ss) j) near in
     let order : (i ≤ j) ⊎ (j ≤ i) = grind arith in
     ⊎_elim
-      (λ (before : i ≤ j).
-        let less = distances_stay us ss ts h i j before within in
-        let rise = starts_rise us ts i j lengths.1 before within in
-        reach_in (start_of (starts_of us ts) i) (start_of (starts_of us ts) j) (omega (arith, rise)) (omega (arith, less, now.1)))
-      (λ (behind : j ≤ i).
-        let less = distances_stay us ss ts h j i behind inside in
-        let rise = starts_rise us ts j i lengths.1 behind inside in
-        reach_in (start_of (starts_of us ts) i) (start_of (starts_of us ts) j) (omega (arith, less, now.0)) (omega (arith, rise)))
-      order
+    (λ (before : i ≤ j).
+    let less = distances_stay us ss ts h i j before within in
+    let rise = starts_rise us ts i j lengths.1 before within in
+    reach_in (start_of (starts_of us ts) i) (start_of (starts_of us ts) j) (omega (arith, rise)) (omega (arith, less, now.1)))
+    (λ (behind : j ≤ i).
+    let less = distances_stay us ss ts h j i behind inside in
+    let rise = starts_rise us ts j i lengths.1 behind inside in
+    reach_in (start_of (starts_of us ts) i) (start_of (starts_of us ts) j) (omega (arith, less, now.0)) (omega (arith, rise)))
+    order
 
 became_short : (starts news : List ℕ) (count i : ℕ) (u : Unit) (us : List Unit) (ss : List Shape) → Reach count starts news → i < count → LeadsBelow count u → (MayHave starts (start_of starts i) u Short ⊎ BecomesShort starts (start_of starts i) u us ss) → MayHave news (start_of news i) u Short
 became_short starts news count i (unit.Skip x) us ss reach inside below h = tt
@@ -68,9 +66,10 @@ shapes_kept starts news count [] [] (t ∷ ts) i reach e below may h = absurd h
 shapes_kept starts news count [] (s ∷ ss) ts i reach e below may h = absurd h
 shapes_kept starts news count (u ∷ us) [] ts i reach e below may h = absurd h
 shapes_kept starts news count (u ∷ us) (s ∷ ss) [] i reach e below may h = absurd h
-shapes_kept starts news count (u ∷ us) (s ∷ ss) (t ∷ ts) i reach e below may h =
-    (turned_may starts news count i u us ss s t reach (omega (arith, e)) below.0 may.0 h.0,
-     shapes_kept starts news count us ss ts (i + 1) reach (omega (arith, e)) below.1 may.1 h.1)
+shapes_kept starts news count (u ∷ us) (s ∷ ss) (t ∷ ts) i reach e below may h = (
+  turned_may starts news count i u us ss s t reach (omega (arith, e)) below.0 may.0 h.0,
+  shapes_kept starts news count us ss ts (i + 1) reach (omega (arith, e)) below.1 may.1 h.1,
+)
 
 -- a short template is one instruction where a long one is
 single_short : (u : Unit) (s : Shape) → is_single u s ≡ true → is_single u Short ≡ true

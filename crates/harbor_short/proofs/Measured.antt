@@ -1,5 +1,5 @@
 -- The loop that sets the starts, by what is left of the units.
-use Rattle.std.proofs.Common.{◌≡◌, ◌∙◌, ℕ, zero, suc, ◌+◌, ◌<◌, ◌≤◌, List, [], ◌∷◌, ◌++◌, length, get_or, take, drop, set, refl, sym, ap, ap₂, subst, arith, append_assoc}
+use Rattle.std.proofs.Common.{◌≡◌, ◌∙◌, ℕ, ◌+◌, ◌<◌, ◌≤◌, List, [], ◌∷◌, ◌++◌, length, get_or, take, drop, set, refl, sym, ap, ap₂, arith, append_assoc}
 use Rattle.std.proofs.lemmas.List.{drop_more, length-set, append-nil, take_all, take_more_set, drop_all}
 use Rattle.std.proofs.lemmas.List.Sums.{sum_by-cons}
 use Rattle.mote_layout.specs.Memory.{bank_words}
@@ -9,7 +9,7 @@ use Rattle.unit_code.specs.declared.unit.Shape.TheVariants.{Long}
 use Rattle.unit_code.specs.Ends.{long_length}
 use Rattle.unit_code.specs.Lengths.{spelled_length}
 use Rattle.unit_code.specs.Spelling.{starts_after, starts_of}
-use Rattle.harbor_short.proofs.Shorter.{fewer_words, long_least}
+use Rattle.harbor_short.proofs.Shorter.{long_least}
 
 pub record HasMeasured (us : List Unit) (ss : List Shape) (starts : List ℕ) (place i : ℕ) : Type 0 where
   pub placed : length starts ≡ length us
@@ -30,15 +30,16 @@ room_left us u s place i at h fits =
 
 pub measured_next : (us : List Unit) (ss : List Shape) (starts : List ℕ) (u : Unit) (s : Shape) (place i : ℕ) → u ≡ get_or us i u → s ≡ get_or ss i s → i < length us → length ss ≡ length us → HasMeasured us ss starts place i → HasMeasured us ss (set starts i place) (place + spelled_length u s) (i + 1)
 measured_next us ss starts u s place i at shape h e was = record {
-    placed = length-set starts i place ∙ was.placed;
-    joined =
+  placed = length-set starts i place ∙ was.placed;
+  joined =
       let inside : i < length starts = omega (arith, h, was.placed) in
       let within : i < length ss = omega (arith, h, e) in
       ap (λ (l : List ℕ). l ++ starts_after (place + spelled_length u s) (drop (i + 1) us) (drop (i + 1) ss)) (take_more_set starts i place inside)
       ∙ append_assoc (take i starts) (place ∷ []) (starts_after (place + spelled_length u s) (drop (i + 1) us) (drop (i + 1) ss))
       ∙ ap (λ (l : List ℕ). take i starts ++ l) (sym (ap₂ (λ (xs : List Unit) (ys : List Shape). starts_after place xs ys) (here us u i at h) (here ss s i shape within)))
       ∙ was.joined;
-    fits = room_left us u s place i at h was.fits }
+  fits = room_left us u s place i at h was.fits;
+}
 
 pub measured_all : (us : List Unit) (ss : List Shape) (starts : List ℕ) (place i : ℕ) → i ≡ length us → HasMeasured us ss starts place i → starts ≡ starts_of us ss
 measured_all us ss starts place i e was =

@@ -1,14 +1,14 @@
 -- A round makes shapes short and none long.
-use Rattle.std.proofs.Common.{◌≡◌, ◌∙◌, ◌↔◌, ◌⊎◌, ⊎_elim, inl, inr, ℕ, zero, suc, ◌+◌, ◌<◌, ◌≤◌, Bool, true, false, List, [], ◌∷◌, length, refl, sym, ap, ap₂, subst, arith}
+use Rattle.std.proofs.Common.{◌≡◌, ◌↔◌, ◌⊎◌, ⊎_elim, inl, inr, ℕ, suc, ◌+◌, ◌<◌, ◌≤◌, true, false, List, [], ◌∷◌, length, refl, ap, ap₂, arith}
 use Rattle.std.specs.Prelude.{⊤}
 use Rattle.unit_code.specs.declared.unit.Unit.{Unit}
 use Rattle.unit_code.specs.declared.unit.Unit.TheVariants as unit
 use Rattle.unit_code.specs.declared.unit.Shape.{Shape}
 use Rattle.unit_code.specs.declared.unit.Shape.TheVariants.{Long, Short}
 use Rattle.unit_code.specs.Lengths.{spelled_length}
-use Rattle.unit_code.specs.Spelling.{start_of, starts_of}
+use Rattle.unit_code.specs.Spelling.{start_of}
 use Rattle.harbor_short.specs.Longs.{longs}
-use Rattle.harbor_short.specs.Rounds.{AreTurned, BecomesShort, IsRound}
+use Rattle.harbor_short.specs.Rounds.{AreTurned, BecomesShort}
 
 -- what was short is short
 abbrev pub AreShorter : List Shape → List Shape → Type 0

@@ -8,4 +8,4 @@ use Rattle.unit_code.specs.Spelling.{start_of, starts_of}
 abbrev pub DistancesStay : List Unit → List Shape → List Shape → Type 0
 DistancesStay us shapes next = (i j : ℕ) → i ≤ j → j < length us
     → start_of (starts_of us next) j + start_of (starts_of us shapes) i
-        ≤ start_of (starts_of us shapes) j + start_of (starts_of us next) i
+    ≤ start_of (starts_of us shapes) j + start_of (starts_of us next) i

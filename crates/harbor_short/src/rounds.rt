@@ -89,13 +89,7 @@ fn shorten(units: &[Unit], starts: &[u16], shapes: &mut [Shape]) -> bool
 }
 
 /// Whether a long unit at a word becomes short before these units in their shapes.
-fn becomes_short(
-    starts: &[u16],
-    at: u16,
-    unit: &Unit,
-    behind: &[Unit],
-    shapes: &[Shape],
-) -> bool
+fn becomes_short(starts: &[u16], at: u16, unit: &Unit, behind: &[Unit], shapes: &[Shape]) -> bool
     requires { LeadsBelow (length starts.now) unit.now }
     ensures { IsTrue result ↔ BecomesShort starts.now at unit.now behind.now shapes.now }
 {
