@@ -48,8 +48,8 @@ fn make_rounds(units: &[Unit], starts: &mut [u16], shapes: &mut [Shape])
     }
 }
 
-/// Sets where the templates of units in these shapes start.
-fn measure(units: &[Unit], shapes: &[Shape], starts: &mut [u16])
+/// Sets where the templates of units in these shapes start, in words from the first one.
+pub fn measure(units: &[Unit], shapes: &[Shape], starts: &mut [u16])
     requires shaped { length shapes.now ≡ length units.now }
     requires placed { length starts.old ≡ length units.now }
     requires fits { long_length units.now ≤ bank_words }

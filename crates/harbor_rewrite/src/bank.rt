@@ -1,0 +1,62 @@
+//! The words of units.
+
+ghost use Rattle.std.specs.Prelude.{◌≡◌, ◌<◌, ◌≤◌, ◌^◌, Bool, length, IfOk};
+ghost use Rattle.std.specs.List.{All, AllByRecursion};
+ghost use Rattle.mote_layout.specs.Memory.{bank_words};
+ghost use Rattle.unit_code.specs.Proper.{IsProper};
+ghost use Rattle.unit_code.specs.Spelling.{AreShapesOf, AreTemplatesOf, starts_of};
+ghost use Rattle.harbor_rewrite.specs.Emit.{AreEmitted};
+
+use harbor_short::{choose, measure};
+use harbor_spell::{Template, spell_unit};
+use mote_base::NoMemory;
+use std::alloc::Global;
+use unit_code::{BankCode, Shape, Unit, UnitList};
+
+/// The words of the units for a bank of flash, with each template's start.
+pub fn bank_code(alloc: Global, list: &UnitList) -> Result<BankCode, NoMemory>
+    requires { (sealed : Bool) × IsProper list.now.units sealed }
+    ensures units { IfOk result (λ code. code.units ≡ list.now.units) }
+    ensures emitted { IfOk result (λ code. AreEmitted list.now.units code.words code.starts) }
+    ensures room { IfOk result (λ code. length code.words ≤ bank_words) }
+    ensures placed { IfOk result (λ code. length code.starts ≡ length list.now.units) }
+{
+    let shapes = choose(alloc, &list.units)?;
+    let mut starts = vec![in alloc; 0; list.units.len()]?;
+    measure(&list.units, &shapes, &mut starts);
+    let words = words(alloc, &list.units, &starts, &shapes)?;
+    let units = list.units.clone()?;
+    Ok(BankCode {
+        units,
+        words,
+        starts,
+    })
+}
+
+/// The templates of units in these shapes, one after the other.
+fn words(
+    alloc: Global,
+    units: &[Unit],
+    starts: &[u16],
+    shapes: &[Shape],
+) -> Result<Vec<u16>, NoMemory>
+    requires proper { (sealed : Bool) × IsProper units.now sealed }
+    requires shapes { AreShapesOf units.now shapes.now }
+    requires starts { starts.now ≡ starts_of units.now shapes.now }
+    ensures templates { IfOk result (λ words. AreTemplatesOf units.now shapes.now words.items) }
+    ensures small { IfOk result (λ words. AllByRecursion (λ word. word < 2 ^ 16) words.items) }
+{
+    let mut words = Vec::new(alloc);
+    let mut template = Template::new();
+    for i in 0..units.len() {
+        spell_unit(units, starts, shapes, i, &mut template);
+        words.extend_from_slice(&template)?;
+    }
+    are_words(&words);
+    Ok(words)
+}
+
+/// A word has 16 bits.
+fn are_words(words: &[u16])
+    ensures { AllByRecursion (λ word. word < 2 ^ 16) words.now }
+{}
