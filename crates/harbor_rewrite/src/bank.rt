@@ -45,6 +45,7 @@ fn words(
     requires starts { starts.now ≡ starts_of units.now shapes.now }
     ensures templates { IfOk result (λ words. AreTemplatesOf units.now shapes.now words.items) }
     ensures small { IfOk result (λ words. AllByRecursion (λ word. word < 2 ^ 16) words.items) }
+    ensures room { IfOk result (λ words. length words.items ≤ bank_words) }
 {
     let mut words = Vec::new(alloc);
     let mut template = Template::new();

@@ -7,7 +7,7 @@ ghost use Rattle.unit_code.specs.Listing.{FitsTogether};
 ghost use Rattle.unit_code.specs.Proper.{IsProper};
 ghost use Rattle.unit_code.specs.Spelling.{start_of};
 ghost use Rattle.unit_code.specs.Units.{listed, refusal};
-ghost use Rattle.module_image.specs.Contents.{FaceRules};
+ghost use Rattle.module_image.specs.Contents.{FaceRules, Rules};
 ghost use Rattle.module_image.specs.Spelling.{Image, flags};
 ghost use Rattle.harbor_rewrite.specs.Errors.{IsRefused};
 ghost use Rattle.harbor_rewrite.specs.Rewritten.{IsRewritten, SpellsOriginal, entered_at, listing_of, marks_of, moved, with_code, with_entries};
@@ -92,6 +92,7 @@ fn moved_face(image: &ImageView<'_>, words: &[u16]) -> Face
     requires { length words.now ≡ length image.now.face.provided.items }
     ensures face { result ≡ with_entries image.now.face words.now }
     ensures rules { FaceRules result }
+    ensures image { Rules image.now }
 {
     let Face {
         id,
@@ -130,6 +131,7 @@ fn write_as_read(
     handler: u16,
     words: &[u16],
 ) -> Result<Vec<u8>, NoMemory>
+    requires image { Rules image.now }
     requires face { FaceRules face.now }
     requires room { length words.now ≤ bank_words }
     ensures { IfOk result (λ file. Image file.items
