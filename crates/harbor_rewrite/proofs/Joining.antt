@@ -15,7 +15,7 @@ use Rattle.unit_code.specs.Proper.{IsOfKind}
 use Rattle.unit_code.specs.Spelling.{AreShapesOf, AreTemplatesOf, form_of, forms_from, start_of, starts_of}
 use Rattle.unit_code.specs.Templates.{template}
 use Rattle.harbor_spell.proofs.Added.{words_more}
-use Rattle.harbor_spell.proofs.Emitted.{form_length}
+use Rattle.harbor_spell.proofs.Lengths.{form_length}
 use Rattle.harbor_spell.proofs.Joined.{words_joined}
 use Rattle.harbor_spell.proofs.Placed.{same_count, spelled-least}
 

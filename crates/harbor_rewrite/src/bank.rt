@@ -1,8 +1,9 @@
 //! The words of units.
 
 ghost use Rattle.std.specs.Prelude.{◌≡◌, ◌<◌, ◌≤◌, ◌^◌, Bool, length, IfOk};
-ghost use Rattle.std.specs.List.{All, AllByRecursion};
+ghost use Rattle.std.specs.List.{AllByRecursion};
 ghost use Rattle.mote_layout.specs.Memory.{bank_words};
+ghost use Rattle.unit_code.specs.Ends.{long_length};
 ghost use Rattle.unit_code.specs.Proper.{IsProper};
 ghost use Rattle.unit_code.specs.Spelling.{AreShapesOf, AreTemplatesOf, starts_of};
 ghost use Rattle.harbor_rewrite.specs.Emit.{AreEmitted};
@@ -21,16 +22,38 @@ pub fn bank_code(alloc: Global, list: &UnitList) -> Result<BankCode, NoMemory>
     ensures room { IfOk result (λ code. length code.words ≤ bank_words) }
     ensures placed { IfOk result (λ code. length code.starts ≡ length list.now.units) }
 {
-    let shapes = choose(alloc, &list.units)?;
-    let mut starts = vec![in alloc; 0; list.units.len()]?;
-    measure(&list.units, &shapes, &mut starts);
-    let words = words(alloc, &list.units, &starts, &shapes)?;
-    let units = list.units.clone()?;
+    code_of(alloc, &list.units)
+}
+
+fn code_of(alloc: Global, units: &[Unit]) -> Result<BankCode, NoMemory>
+    requires { (sealed : Bool) × IsProper units.now sealed }
+    ensures units { IfOk result (λ code. code.units ≡ units.now) }
+    ensures emitted { IfOk result (λ code. AreEmitted units.now code.words code.starts) }
+    ensures room { IfOk result (λ code. length code.words ≤ bank_words) }
+    ensures placed { IfOk result (λ code. length code.starts ≡ length units.now) }
+{
+    let shapes = choose(alloc, units)?;
+    let starts = starts(alloc, units, &shapes)?;
+    let words = words(alloc, units, &starts, &shapes)?;
+    let mut same = Vec::new(alloc);
+    same.extend_from_slice(units)?;
     Ok(BankCode {
-        units,
+        units: same,
         words,
         starts,
     })
+}
+
+/// Where the templates of units in these shapes start.
+fn starts(alloc: Global, units: &[Unit], shapes: &[Shape]) -> Result<Vec<u16>, NoMemory>
+    requires shapes { AreShapesOf units.now shapes.now }
+    requires fits { long_length units.now ≤ bank_words }
+    ensures starts { IfOk result (λ starts. starts.items ≡ starts_of units.now shapes.now) }
+    ensures count { IfOk result (λ starts. length starts.items ≡ length units.now) }
+{
+    let mut starts = vec![in alloc; 0; units.len()]?;
+    measure(units, shapes, &mut starts);
+    Ok(starts)
 }
 
 /// The templates of units in these shapes, one after the other.

@@ -46,6 +46,7 @@ fn units_of(alloc: Global, image: &ImageView<'_>) -> Result<UnitList, RewriteErr
     ensures proper { IfOk result (λ list. IsProper list.units image.now.sealed) }
     ensures together { IfOk result (λ list. FitsTogether list (marks_of image.now)) }
     ensures refused { IfErr result (λ e. IsRefused image.now e) }
+    ensures image { Rules image.now }
 {
     let marks = image.marks();
     let code = image.code();
@@ -63,6 +64,7 @@ fn write(
     marks: &[u16],
     code: &BankCode,
 ) -> Result<Vec<u8>, NoMemory>
+    requires image { Rules image.now }
     requires marks { length marks.now ≡ length (marks_of image.now) }
     requires entered { AllByRecursion (λ number. number < length code.now.starts) marks.now }
     requires room { length code.now.words ≤ bank_words }
@@ -92,7 +94,6 @@ fn moved_face(image: &ImageView<'_>, words: &[u16]) -> Face
     requires { length words.now ≡ length image.now.face.provided.items }
     ensures face { result ≡ with_entries image.now.face words.now }
     ensures rules { FaceRules result }
-    ensures image { Rules image.now }
 {
     let Face {
         id,
