@@ -1,5 +1,5 @@
 -- The words at which a rewritten image is entered.
-use Rattle.std.proofs.Common.{◌≡◌, ◌∙◌, ℕ, zero, suc, ◌+◌, ◌<◌, ◌≤◌, ◌^◌, List, [], ◌∷◌, ◌++◌, length, drop, get_or, map, refl, sym, ap, ap₂, subst, arith, append_assoc}
+use Rattle.std.proofs.Common.{◌≡◌, ◌∙◌, ℕ, zero, suc, ◌+◌, ◌<◌, ◌≤◌, List, [], ◌∷◌, ◌++◌, length, drop, get_or, map, refl, sym, ap, ap₂, subst, arith, append_assoc}
 use Rattle.std.specs.Prelude.{⊤}
 use Rattle.std.specs.List.{AllByRecursion, Contains}
 use Rattle.std.proofs.lemmas.List.{append-nil, drop_all, drop_more, length-map}
@@ -63,7 +63,3 @@ starts_at starts n h = Contains-get_or starts n 0 h
 pub entries_are_starts : (starts numbers : List ℕ) → AllByRecursion (λ number. number < length starts) numbers → AllByRecursion (λ mark. Contains starts mark) (map (start_of starts) numbers)
 entries_are_starts starts [] h = tt
 entries_are_starts starts (n ∷ numbers) h = (starts_at starts n h.0, entries_are_starts starts numbers h.1)
-
-pub are_words : (ws : List ℕ) → ((i : ℕ) → get_or ws i 0 < 2 ^ 16) → AllByRecursion IsWord ws
-are_words [] h = tt
-are_words (w ∷ ws) h = (h 0, are_words ws (λ i. h (suc i)))

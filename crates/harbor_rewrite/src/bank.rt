@@ -80,7 +80,7 @@ fn words(
     Ok(words)
 }
 
-/// A word has 16 bits.
-fn are_words(words: &[u16])
+/// Words have 16 bits.
+pub(crate) fn are_words(words: &[u16])
     ensures { AllByRecursion (λ word. word < 2 ^ 16) words.now }
 {}

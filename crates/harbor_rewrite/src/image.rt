@@ -12,7 +12,7 @@ ghost use Rattle.module_image.specs.Spelling.{Image, flags};
 ghost use Rattle.harbor_rewrite.specs.Errors.{IsRefused};
 ghost use Rattle.harbor_rewrite.specs.Rewritten.{IsRewritten, SpellsOriginal, entered_at, listing_of, marks_of, moved, with_code, with_entries};
 
-use crate::bank::bank_code;
+use crate::bank::{are_words, bank_code};
 use crate::error::RewriteError;
 use arrayvec::ArrayVec;
 use module_image::{FIRST_VERSION, Face, ImageView, MARKS, Provided, write_image, write_image2};
@@ -101,6 +101,7 @@ fn moved_face(image: &ImageView<'_>, words: &[u16]) -> Face
         subscribed,
     } = image.face();
     let provided = moved(&old, words);
+    are_words(words);
     Face {
         id,
         provided,
