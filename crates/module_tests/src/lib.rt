@@ -6,4 +6,8 @@ mod image;
 #[cfg(test)]
 mod lines;
 #[cfg(test)]
+mod spelled;
+#[cfg(test)]
 mod units;
+#[cfg(test)]
+mod verified;
