@@ -8,6 +8,10 @@ mod image;
 #[cfg(test)]
 mod lines;
 #[cfg(test)]
+mod rewritten;
+#[cfg(test)]
+mod short;
+#[cfg(test)]
 mod spelled;
 #[cfg(test)]
 mod units;
