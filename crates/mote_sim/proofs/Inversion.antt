@@ -10,15 +10,16 @@ use Rattle.mote_layout.specs.Limits.{script_limit, image_limit}
 use Rattle.domain_model.specs.declared.script.Event.{Event}
 use Rattle.domain_model.specs.declared.request.Kind.{Kind}
 use Rattle.domain_model.specs.declared.request.Kind.TheVariants as kinds
+use Rattle.domain_model.specs.declared.request.Tool.{Tool}
 use Rattle.domain_model.specs.Command.{Command, limit_of}
 use Rattle.domain_model.specs.Loader.{are_for_loader}
 use Rattle.event_script.specs.declared.error.ScriptError.{ScriptError}
 use Rattle.event_script.specs.Refusals.{refusal_of, events_of}
 use Rattle.domain_model.specs.State.{Input}
-use Rattle.mote_sim.specs.Clauses.{AreImages, WritesRun, RefusesFiles, HasStatus}
-use Rattle.mote_sim.specs.Outcome.{Outcome, NoCommand, Unheld, Refuses, Runs, Makes, outcome, outcome_of, outcome_by, outcome_with, outcome_of_script, outcome_of_tool, Answers, MayFind, AnswersOver, usage_line}
+use Rattle.mote_sim.specs.Clauses.{AreImages, WritesRun, RefusesFiles, HasStatus, HasToolStatus}
+use Rattle.mote_sim.specs.Outcome.{Outcome, NoCommand, Unheld, Refuses, Runs, Makes, outcome, outcome_of, outcome_by, outcome_with, outcome_of_script, Answers, MayFind, AnswersOver, usage_line}
 use Rattle.mote_sim.specs.Refusal.{Refusal}
-use Rattle.mote_sim.specs.Tools.{Output, made_by}
+use Rattle.mote_sim.specs.Tools.{Output, IsMadeBy, Tells}
 use Rattle.mote_sim.specs.Reading.{Gathered, Whole, Longer, Missing, gathered_from, gathered_file, with_first}
 use Rattle.mote_sim.specs.Trace.{IsTraceOf, run_input, are_built, input_with, input_of}
 use Rattle.mote_sim.proofs.Counts.{HasItsFiles, one_at_least, most_images}
@@ -129,13 +130,18 @@ writes_run units handler fs (s ∷ names) text before new few a written =
       written = written ∙ ap (λ t. Some (before ++ t)) b.trace.spelled;
     }
 
+-- Usage tells of no tool.
+not_usage : (made : Result Output Refusal) (text : List ℕ) → Tells made Usage text → ⊥
+not_usage (Ok output) text told = let e : Usage ≡ Done = told.0 in absurd (cc)
+not_usage (Err refusal) text told = let e : Usage ≡ Refused = told.0 in absurd (cc)
+
 -- Usage answers no command alone.
 usage_outcome : (found : Outcome) (text : List ℕ) → Answers found Usage text → (found ≡ NoCommand) × (text ≡ usage_line)
 usage_outcome NoCommand text a = (refl, a.1)
 usage_outcome Unheld text a = absurd a
 usage_outcome (Refuses refusal) text a = let e : Usage ≡ Refused = a.0 in absurd (cc)
 usage_outcome (Runs i) text a = let e : Usage ≡ Done = a.0 in absurd (cc)
-usage_outcome (Makes output) text a = let e : Usage ≡ Done = a.0 in absurd (cc)
+usage_outcome (Makes tool file) text a = absurd (not_usage a.made text a.told)
 
 with_is_command : (i : Option Input) → outcome_with i ≡ NoCommand → ⊥
 with_is_command None e = cc
@@ -145,15 +151,11 @@ script_is_command : (units handler : ℕ) (refused : Option ScriptError) (events
 script_is_command units handler (Some error) events images e = cc
 script_is_command units handler None events images e = with_is_command (input_of units handler events images) e
 
-tool_is_command : (made : Result Output Refusal) → outcome_of_tool made ≡ NoCommand → ⊥
-tool_is_command (Ok output) e = cc
-tool_is_command (Err refusal) e = cc
-
 by_is_command : (kind : Kind) (files : List (List ℕ)) → outcome_by kind files ≡ NoCommand → ⊥
 by_is_command (kinds.Run units handler) [] e = cc
 by_is_command (kinds.Run units handler) (script ∷ images) e = script_is_command units handler (refusal_of (length images) script) (events_of script) images e
 by_is_command (kinds.Tool tool) [] e = cc
-by_is_command (kinds.Tool tool) (file ∷ []) e = tool_is_command (made_by tool file) e
+by_is_command (kinds.Tool tool) (file ∷ []) e = cc
 by_is_command (kinds.Tool tool) (file ∷ other ∷ files) e = cc
 
 is_command : (kind : Kind) (found : Gathered) → outcome_of kind found ≡ NoCommand → ⊥
@@ -169,13 +171,22 @@ pub usage_answers : (files : Option (List Named)) (came : Command → Gathered �
 usage_answers files came command text a =
     let u = usage_outcome a.found text a.answer in (no_command files came command a.found u.0 a.may, u.1)
 
+-- Refused tells of a refusal of the tool, with its line.
+tool_refuses : (tool : Tool) (file text : List ℕ) (old new : Option (List ℕ)) (made : Result Output Refusal) → IsMadeBy tool file made → Tells made Refused text → Grows old new text → RefusesFiles (Makes tool file) old new
+tool_refuses tool file text old new (Ok output) is told grows = let e : Refused ≡ Done = told.0 in absurd (cc)
+tool_refuses tool file text old new (Err refusal) is told grows = (refusal, is, subst (λ t. Grows old new t) told.1 grows)
+
+tool_status : (made : Result Output Refusal) (s : Status) (text : List ℕ) → Tells made s text → HasToolStatus made s
+tool_status (Ok output) s text told = told.0
+tool_status (Err refusal) s text told = told.0
+
 -- Refused answers a refusal, with its line.
 pub refuses : (found : Outcome) (text : List ℕ) (old new : Option (List ℕ)) → Answers found Refused text → Grows old new text → RefusesFiles found old new
 refuses NoCommand text old new a grows = let e : Refused ≡ Usage = a.0 in absurd (cc)
 refuses Unheld text old new a grows = absurd a
 refuses (Refuses refusal) text old new a grows = subst (λ t. Grows old new t) a.1 grows
 refuses (Runs i) text old new a grows = let e : Refused ≡ Done = a.0 in absurd (cc)
-refuses (Makes output) text old new a grows = let e : Refused ≡ Done = a.0 in absurd (cc)
+refuses (Makes tool file) text old new a grows = tool_refuses tool file text old new a.made a.is_made a.told grows
 
 -- Each answer has the status of its outcome.
 pub has_status : (found : Outcome) (s : Status) (text : List ℕ) → Answers found s text → HasStatus found s
@@ -183,4 +194,4 @@ has_status NoCommand s text a = a.0
 has_status Unheld s text a = a
 has_status (Refuses refusal) s text a = a.0
 has_status (Runs i) s text a = a.0
-has_status (Makes output) s text a = a.0
+has_status (Makes tool file) s text a = (a.made, a.is_made, tool_status a.made s text a.told)

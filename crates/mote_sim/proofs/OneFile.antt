@@ -10,10 +10,10 @@ use Rattle.domain_model.specs.declared.request.Kind.TheVariants as kinds
 use Rattle.domain_model.specs.declared.request.Tool.{Tool}
 use Rattle.domain_model.specs.Command.{limit_of}
 use Rattle.mote_sim.specs.Clauses.{Reads, WritesTool}
-use Rattle.mote_sim.specs.Outcome.{outcome_of, outcome_by, outcome_of_tool, Answers}
+use Rattle.mote_sim.specs.Outcome.{outcome_of, outcome_by, Answers}
 use Rattle.mote_sim.specs.Reading.{Whole, gathered_from}
 use Rattle.mote_sim.specs.Refusal.{Refusal}
-use Rattle.mote_sim.specs.Tools.{Output, Lists, Writes, IsOutput, made_by}
+use Rattle.mote_sim.specs.Tools.{Output, Lists, Writes, IsOutput, IsMadeBy, Tells}
 use Rattle.mote_sim.proofs.Counts.{HasItsFiles, one_alone}
 use Rattle.mote_sim.proofs.Inversion.{first_of, all_whole}
 
@@ -45,22 +45,22 @@ one_file kind fs (name ∷ []) text few a =
     }
 one_file kind fs (name ∷ other ∷ names) text few a = absurd (one_alone (length names) few)
 
--- What is written by a tool is its output.
-record Makes (made : Result Output Refusal) (text : List ℕ) : Type 0 where
+-- What is written with Done is an output.
+record MakesOutput (tool : Tool) (file text : List ℕ) : Type 0 where
   pub output : Output
-  pub is : made ≡ Ok output
+  pub is : IsMadeBy tool file (Ok output)
   pub written : IsOutput output text
 
-makes : (made : Result Output Refusal) (text : List ℕ) → Answers (outcome_of_tool made) Done text → Makes made text
-makes (Ok output) text a = record { output = output; is = refl; written = a.1 }
-makes (Err refusal) text a = let e : Done ≡ Refused = a.0 in absurd (cc)
+made_output : (tool : Tool) (file text : List ℕ) (made : Result Output Refusal) → IsMadeBy tool file made → Tells made Done text → MakesOutput tool file text
+made_output tool file text (Ok output) is told = record { output = output; is = is; written = told.1 }
+made_output tool file text (Err refusal) is told = let e : Done ≡ Refused = told.0 in absurd (cc)
 
 -- The file of an image reads as that image.
 reads : (output : Output) (text : List ℕ) → IsOutput output text → Reads output text
-reads (Lists l) text is = is
+reads (Lists units places) text is = is
 reads (Writes c) text is = (is.spelled, image_read text (image_of text) c refl is)
 
-tool_writes : (tool : Tool) (fs : List Named) (names : List (List ℕ)) (text before : List ℕ) (new : Option (List ℕ)) (one : One (kinds.Tool tool) fs names text) → Makes (made_by tool one.bytes) text → new ≡ Some (before ++ text) → WritesTool tool names fs before new
+tool_writes : (tool : Tool) (fs : List Named) (names : List (List ℕ)) (text before : List ℕ) (new : Option (List ℕ)) (one : One (kinds.Tool tool) fs names text) → MakesOutput tool one.bytes text → new ≡ Some (before ++ text) → WritesTool tool names fs before new
 tool_writes tool fs names text before new one m written =
     record {
       name = one.name;
@@ -78,4 +78,4 @@ tool_writes tool fs names text before new one m written =
 pub writes_tool : (tool : Tool) (fs : List Named) (names : List (List ℕ)) (text before : List ℕ) (new : Option (List ℕ)) → HasItsFiles (record { kind = kinds.Tool tool; files = names }) → Answers (outcome_of (kinds.Tool tool) (gathered_from (kinds.Tool tool) 0 fs names)) Done text → new ≡ Some (before ++ text) → WritesTool tool names fs before new
 writes_tool tool fs names text before new few a written =
     let one = one_file (kinds.Tool tool) fs names text few a in
-    tool_writes tool fs names text before new one (makes (made_by tool one.bytes) text one.answer) written
+    tool_writes tool fs names text before new one (made_output tool one.bytes text one.answer.made one.answer.is_made one.answer.told) written

@@ -1,5 +1,5 @@
 -- What the clauses of the top call say.
-use Rattle.std.specs.Prelude.{◌≡◌, ℕ, ◌≤◌, true, List, [], ◌∷◌, ◌++◌, length, Option, Some, None, IsSome, Ok, ⊤}
+use Rattle.std.specs.Prelude.{◌≡◌, ℕ, ◌≤◌, true, List, [], ◌∷◌, ◌++◌, length, Option, Some, None, IsSome, Result, Ok, Err, ⊤}
 use Rattle.std.specs.List.{AllByRecursion}
 use Rattle.mote_base.specs.Files.{Named, held}
 use Rattle.mote_base.specs.Written.{Grows, IsStartOf}
@@ -19,8 +19,8 @@ use Rattle.event_script.specs.Refusals.{refusal_of, events_of}
 use Rattle.trace_text.specs.Text.{texts}
 use Rattle.mote_sim.specs.Listing.{listing_text}
 use Rattle.mote_sim.specs.Outcome.{Outcome, NoCommand, Unheld, Refuses, Runs, Makes, Answers}
-use Rattle.mote_sim.specs.Refusal.{line_of}
-use Rattle.mote_sim.specs.Tools.{Output, Lists, Writes, made_by}
+use Rattle.mote_sim.specs.Refusal.{Refusal, line_of}
+use Rattle.mote_sim.specs.Tools.{Output, Lists, Writes, IsMadeBy}
 use Rattle.mote_sim.specs.Trace.{IsLawfulRun, run_input}
 
 -- These are the bytes of the images of these names: each image is held, and within the limit of an image.
@@ -56,7 +56,7 @@ pub record WritesRun (units handler : ℕ) (names : List (List ℕ)) (files : Li
 
 -- What a tool wrote. The file of an image reads as that image.
 abbrev pub Reads : Output → List ℕ → Type 0
-Reads (Lists l) text = text ≡ listing_text l
+Reads (Lists units places) text = text ≡ listing_text units places
 Reads (Writes c) text = (text ≡ spelling c) × (image_of text ≡ Ok c)
 
 -- The tool has one file, which was read whole and is within its limit. Nothing refuses it, and the bytes that were added
@@ -68,7 +68,7 @@ pub record WritesTool (tool : Tool) (names : List (List ℕ)) (files : List Name
   pub file_held : held files name ≡ Some file
   pub file_fits : length file ≤ limit_of (kinds.Tool tool) 0
   pub output : Output
-  pub made : made_by tool file ≡ Ok output
+  pub made : IsMadeBy tool file (Ok output)
   pub text : List ℕ
   pub reads : Reads output text
   pub written : new ≡ Some (before ++ text)
@@ -79,7 +79,12 @@ RefusesFiles NoCommand old new = ⊥
 RefusesFiles Unheld old new = ⊥
 RefusesFiles (Refuses refusal) old new = Grows old new (line_of refusal)
 RefusesFiles (Runs i) old new = ⊥
-RefusesFiles (Makes output) old new = ⊥
+RefusesFiles (Makes tool file) old new = (refusal : Refusal) × IsMadeBy tool file (Err refusal) × Grows old new (line_of refusal)
+
+-- The status that tells what a tool made.
+abbrev pub HasToolStatus : Result Output Refusal → Status → Type 0
+HasToolStatus (Ok output) s = s ≡ status.Done
+HasToolStatus (Err refusal) s = s ≡ status.Refused
 
 -- The status that answers where no call fails and memory is left. No status does where a file isn't held,
 -- for then a call of the shelf fails.
@@ -88,7 +93,7 @@ HasStatus NoCommand s = s ≡ status.Usage
 HasStatus Unheld s = ⊥
 HasStatus (Refuses refusal) s = s ≡ status.Refused
 HasStatus (Runs i) s = s ≡ status.Done
-HasStatus (Makes output) s = s ≡ status.Done
+HasStatus (Makes tool file) s = (made : Result Output Refusal) × IsMadeBy tool file made × HasToolStatus made s
 
 -- A front of an output that answers was added.
 pub record WritesFront (found : Outcome) (before : List ℕ) (new : Option (List ℕ)) : Type 0 where

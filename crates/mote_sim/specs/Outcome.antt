@@ -1,10 +1,11 @@
 -- What the program has to answer.
-use Rattle.std.specs.Prelude.{◌≡◌, ℕ, List, [], ◌∷◌, length, codes, Option, Some, None, Result, Ok, Err}
+use Rattle.std.specs.Prelude.{◌≡◌, ℕ, List, [], ◌∷◌, length, codes, Option, Some, None}
 use Rattle.mote_base.specs.Files.{Named}
 use Rattle.mote_base.specs.declared.fault.Status.{Status}
 use Rattle.mote_base.specs.declared.fault.Status.TheVariants.{Done, Usage, Refused}
 use Rattle.domain_model.specs.declared.request.Kind.{Kind}
 use Rattle.domain_model.specs.declared.request.Kind.TheVariants as kinds
+use Rattle.domain_model.specs.declared.request.Tool.{Tool}
 use Rattle.domain_model.specs.declared.script.Event.{Event}
 use Rattle.domain_model.specs.Command.{Command}
 use Rattle.domain_model.specs.State.{Input}
@@ -12,17 +13,17 @@ use Rattle.event_script.specs.declared.error.ScriptError.{ScriptError}
 use Rattle.event_script.specs.Refusals.{refusal_of, events_of}
 use Rattle.mote_sim.specs.Reading.{Gathered, Whole, Longer, Missing, gathered}
 use Rattle.mote_sim.specs.Refusal.{Refusal, TooLong, BadScript, Unbuilt, line_of}
-use Rattle.mote_sim.specs.Tools.{Output, IsOutput, made_by}
+use Rattle.mote_sim.specs.Tools.{TellsOf}
 use Rattle.mote_sim.specs.Trace.{IsTraceOf, input_of}
 
--- The words are no command; a file of the command isn't held; the command refuses its files; this input is run; or a
--- tool writes this.
+-- The words are no command; a file of the command isn't held; the command refuses its files; this input is run; or this
+-- tool works on the file of these bytes.
 pub data Outcome : Type 0 where
   NoCommand : Outcome
   Unheld : Outcome
   Refuses : Refusal → Outcome
   Runs : Input → Outcome
-  Makes : Output → Outcome
+  Makes : Tool → List ℕ → Outcome
 
 abbrev pub outcome_with : Option Input → Outcome
 outcome_with None = Refuses Unbuilt
@@ -34,17 +35,13 @@ abbrev pub outcome_of_script : ℕ → ℕ → Option ScriptError → List Event
 outcome_of_script units handler (Some e) events images = Refuses (BadScript e)
 outcome_of_script units handler None events images = outcome_with (input_of units handler events images)
 
-abbrev pub outcome_of_tool : Result Output Refusal → Outcome
-outcome_of_tool (Ok output) = Makes output
-outcome_of_tool (Err refusal) = Refuses refusal
-
 -- By the bytes of a command's files: of `run` a script and its images, of a tool one file. (No command has other numbers
 -- of files.)
 abbrev pub outcome_by : Kind → List (List ℕ) → Outcome
 outcome_by (kinds.Run units handler) (script ∷ images) =
     outcome_of_script units handler (refusal_of (length images) script) (events_of script) images
 outcome_by (kinds.Run units handler) [] = Unheld
-outcome_by (kinds.Tool tool) (file ∷ []) = outcome_of_tool (made_by tool file)
+outcome_by (kinds.Tool tool) (file ∷ []) = Makes tool file
 outcome_by (kinds.Tool tool) _ = Unheld
 
 -- The size comes before all that the bytes say.
@@ -67,7 +64,7 @@ Answers NoCommand status text = (status ≡ Usage) × (text ≡ usage_line)
 Answers Unheld status text = ⊥
 Answers (Refuses refusal) status text = (status ≡ Refused) × (text ≡ line_of refusal)
 Answers (Runs i) status text = (status ≡ Done) × IsTraceOf i text
-Answers (Makes output) status text = (status ≡ Done) × IsOutput output text
+Answers (Makes tool file) status text = TellsOf tool file status text
 
 -- The files, read in the order of the words, come to this outcome. Their bytes are what came by the calls of the shelf;
 -- and where it tells its files they are those.

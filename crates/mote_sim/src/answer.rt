@@ -11,10 +11,10 @@ ghost use Rattle.event_script.specs.Refusals.{events_of, refusal_of};
 ghost use Rattle.mote_sim.specs.Asking.{AsksBy, AsksFront, Came};
 ghost use Rattle.mote_sim.specs.Clauses.{WritesRun, WritesTool, RefusesFiles, HasStatus, WritesFront};
 ghost use Rattle.mote_sim.specs.Ending.{Ends, IsAnswer, Answered, CutOff};
-ghost use Rattle.mote_sim.specs.Outcome.{Answers, AnswersOver, outcome, outcome_by, outcome_of_script, outcome_of_tool, outcome_with, usage_line};
+ghost use Rattle.mote_sim.specs.Outcome.{Answers, AnswersOver, outcome, outcome_by, outcome_of_script, outcome_with, usage_line};
 ghost use Rattle.mote_sim.specs.Playing.{AreReady, StandsAt};
 ghost use Rattle.mote_sim.specs.Reading.{Admits, AdmitsEach, bytes_of};
-ghost use Rattle.mote_sim.specs.Tools.{made_by};
+ghost use Rattle.mote_sim.specs.Tools.{TellsOf};
 ghost use Rattle.mote_sim.specs.Trace.{input_of};
 ghost use Rattle.mote_sim.specs.Pieces.{LeadsBySome};
 
@@ -136,7 +136,7 @@ fn run<K: Sink>(
 // Makes what a tool makes of its file.
 fn make<K: Sink>(alloc: Global, tool: Tool, file: &[u8], out: &mut K) -> Status
     ensures { Ends K.written K.faults (LeadsBySome K.leads) out.old out.new 0 0
-        (Answers (outcome_of_tool (made_by tool file.now))) result }
+        (TellsOf tool file.now) result }
 {
     match tool {
         Tool::Listing => list(alloc, file, out),
