@@ -1,6 +1,7 @@
 //! Tests of the public calls of the machine of domains, the mote and the program.
 //!
 //! - `rows`: runs and listings of `mote_sim`'s top call, with their faults and limits.
+//! - `words`: which words of the command line are a command, and its options.
 //! - `images`: images that the top call writes by `upgrade` and `seal`.
 //! - `turns`: turns of a mote of `mote_core` under small limits, by two runners.
 //! - `units`: runs of modules with units and kernel calls of each kind, by the top call and by both runners.
@@ -28,3 +29,5 @@ mod traces;
 mod turns;
 #[cfg(test)]
 mod units;
+#[cfg(test)]
+mod words;
