@@ -1,19 +1,21 @@
 -- The command that is read from the words is the one that the rules give, and there is no other.
-use Rattle.std.specs.Prelude.{IsTrue, unwrap_or, codes, nat_le, nat_lt, slice_index, ◌&&◌, ◌==◌, ◌↔◌}
-use Rattle.std.specs.Bool.{Decides}
+use Rattle.std.specs.Prelude.{IsTrue, unwrap_or, codes, nat_le, nat_lt, ◌&&◌, ◌==◌}
 use Rattle.std.specs.List.{AllByRecursion}
 use Rattle.std.specs.Str.{bytes_eq}
 use Rattle.std.proofs.Common.{◌≡◌, ◌∙◌, ℕ, ◌+◌, ◌≤◌, refl, sym, ap, subst, arith, Bool, true, false, if◌then◌else◌, List, [], ◌∷◌, ◌++◌, length, Option, Some, None, append_assoc, append-nil, length-append}
 use Rattle.std.proofs.lemmas.Bool.Decides.{nat_tests}
 use Rattle.std.proofs.lemmas.Slice.Eq.{bytes_eq-Decides}
-use Rattle.mote_layout.specs.Limits.{images_limit}
+use Rattle.mote_base.specs.Numbers.{number_in, is_number}
+use Rattle.mote_base.specs.Numbers.{value_of as decimal_value}
+use Rattle.mote_layout.specs.Limits.{images_limit, unit_limit, default_units, handler_limit, default_handler_units}
 use Rattle.domain_model.specs.declared.request.Kind.{Kind}
-use Rattle.domain_model.specs.declared.request.Kind.TheVariants.{Run, Listing, Upgrade, Seal}
+use Rattle.domain_model.specs.declared.request.Kind.TheVariants as kinds
+use Rattle.domain_model.specs.declared.request.Tool.{Tool}
 use Rattle.domain_model.specs.declared.request.Setting.{Setting}
 use Rattle.domain_model.specs.declared.request.Setting.TheVariants.{Units, Handler}
 use Rattle.domain_model.specs.declared.request.Place.{Place}
 use Rattle.domain_model.specs.declared.request.Place.TheVariants.{Options, Value, Operands}
-use Rattle.domain_model.specs.Command.{Command, Item, Operand, Joined, Apart, IsItem, IsCommand, Given, CommandsAreByRules, takes, kind_of, is_option, end_of_options, name_of, front_of, value_of, words_of, written, operand_of, operands, value_for, value_in, values, none_or_one, ended, nothing_given, units_given, handler_given, with_value, with_operand, with_place, behind_front, with_joined, with_option, with_any, with_word, with_next, given_by, with_files, command_at, command_with, command_of}
+use Rattle.domain_model.specs.Command.{Command, Item, Operand, Joined, Apart, IsItem, IsCommand, Given, CommandsAreByRules, CommandsAreWithinLimits, IsWithinLimits, greatest, without_limits, tool_of, takes, kind_of, is_option, end_of_options, name_of, front_of, value_of, written, operands, value_for, values, none_or_one, ended, nothing_given, units_given, handler_given, with_value, with_operand, with_place, behind_front, with_joined, with_option, with_any, with_word, given_by, with_files, command_at, command_with, command_of}
 
 -- Texts that are the same, and texts that are not.
 same_text : (xs ys : List ℕ) → bytes_eq xs ys ≡ true → xs ≡ ys
@@ -26,13 +28,13 @@ front_where true f c fs cs text test e rest =
     ap (λ x. x ∷ cs) same ∙ ap (λ xs. f ∷ xs) (rest e)
 front_where false f c fs cs text test e rest = absurd (cc)
 
-has_front : (front word text : List ℕ) → behind_front front word ≡ Some text → word ≡ front ++ text
+pub has_front : (front word text : List ℕ) → behind_front front word ≡ Some text → word ≡ front ++ text
 has_front [] word text e = cc
 has_front (f ∷ fs) [] text e = absurd (cc)
 has_front (f ∷ fs) (c ∷ cs) text e = front_where (f == c) f c fs cs text refl e (λ h. has_front fs cs text h)
 
 -- Where nothing may stand, nothing may stand behind it.
-none_given : (words : List (List ℕ)) → given_by words None ≡ None
+pub none_given : (words : List (List ℕ)) → given_by words None ≡ None
 none_given [] = refl
 none_given (word ∷ words) = none_given words
 
@@ -289,9 +291,9 @@ not_true false never = refl
 no_end : (word : List ℕ) → is_option word ≡ false → bytes_eq word end_of_options ≡ false
 no_end word plain =
     not_true (bytes_eq word end_of_options) (λ e.
-      let looks : is_option word ≡ true = subst (λ (w : List ℕ). is_option w ≡ true) (sym (same_text word end_of_options e)) refl in
-      let both : true ≡ false = sym looks ∙ plain in
-      cc)
+    let looks : is_option word ≡ true = subst (λ (w : List ℕ). is_option w ≡ true) (sym (same_text word end_of_options e)) refl in
+    let both : true ≡ false = sym looks ∙ plain in
+    cc)
 
 -- A word behind two of `-` looks like an option.
 looks_so : (rest : List ℕ) → is_option (45 ∷ 45 ∷ rest) ≡ true
@@ -346,8 +348,7 @@ apart_is Handler g = as_option (codes "handler") g refl
 -- The value is taken, since none stood there.
 value_is : (setting : Setting) (value : ℕ) (place : Place) (units handler now_units now_handler : Option ℕ) (files : List (List ℕ)) (items : List Item) → none_or_one now_units ≡ none_or_one units ++ (value_for Units setting value ++ values Units items) → none_or_one now_handler ≡ none_or_one handler ++ (value_for Handler setting value ++ values Handler items) → (u h : Option ℕ) × (with_value setting (Some value) (at place units handler files) ≡ Some (at Options u h files)) × (none_or_one now_units ≡ none_or_one u ++ values Units items) × (none_or_one now_handler ≡ none_or_one h ++ values Handler items)
 value_is Units value place units handler now_units now_handler files items is_units is_handler =
-    let none = none_stood now_units units value (values Units items) is_units in
-    (
+    let none = none_stood now_units units value (values Units items) is_units in (
       Some value,
       handler,
       ap (λ (o : Option ℕ). units_given o value (at place units handler files)) none,
@@ -355,8 +356,7 @@ value_is Units value place units handler now_units now_handler files items is_un
       is_handler,
     )
 value_is Handler value place units handler now_units now_handler files items is_units is_handler =
-    let none = none_stood now_handler handler value (values Handler items) is_handler in
-    (
+    let none = none_stood now_handler handler value (values Handler items) is_handler in (
       units,
       Some value,
       ap (λ (o : Option ℕ). handler_given o value (at place units handler files)) none,
@@ -400,10 +400,8 @@ makes (Apart setting text value ∷ items) behind units handler now_units now_ha
 
 -- No command takes more files than a run.
 few_files : (kind : Kind) (n : ℕ) → IsTrue (takes kind n) → n ≤ images_limit + 1
-few_files (Run units handler) n is = grind (arith, nat_tests)
-few_files Listing n is = grind (arith, nat_tests)
-few_files Upgrade n is = grind (arith, nat_tests)
-few_files Seal n is = grind (arith, nat_tests)
+few_files (kinds.Run units handler) n is = grind (arith, nat_tests)
+few_files (kinds.Tool tool) n is = grind (arith, nat_tests)
 
 command_is : (behind : Option (List (List ℕ))) (verb : List ℕ) (units handler : Option ℕ) (files : List (List ℕ)) (command : Command) → kind_of verb units handler ≡ Some command.kind → command.files ≡ files → IsTrue (takes command.kind (length command.files)) → command_at (place_behind behind) verb (at (place_behind behind) units handler files) ≡ Some command
 command_is None verb units handler files command named files_are number = ap (λ k. with_files k files) named ∙ ap (λ fs. with_files (Some command.kind) fs) (sym files_are) ∙ ap (λ b. if b then Some (record { kind = command.kind; files = command.files }) else None) number
@@ -418,3 +416,64 @@ taken_from words command r =
 
 pub commands_are_by_rules : CommandsAreByRules
 commands_are_by_rules words command = (ruled words command, taken_from words command)
+
+-- Limits are in their ranges.
+
+in_range_where : (a b c : Bool) (n m : ℕ) → (if a && (b && c) then Some n else None) ≡ Some m → (b ≡ true) × (c ≡ true) × (n ≡ m)
+in_range_where true true true n m is = (refl, refl, cc)
+in_range_where true true false n m is = absurd (cc)
+in_range_where true false c n m is = absurd (cc)
+in_range_where false b c n m is = absurd (cc)
+
+in_range : (least most : ℕ) (text : List ℕ) (n : ℕ) → number_in least most text ≡ Some n → (least ≤ n) × (n ≤ most)
+in_range least most text n is =
+    let parts = in_range_where (is_number text) (nat_le least (decimal_value text)) (nat_le (decimal_value text) most) (decimal_value text) n is in
+    (grind (arith, nat_tests, parts.0, parts.2), grind (arith, nat_tests, parts.1, parts.2))
+
+abbrev IsGiven : Setting → Option ℕ → Type 0
+IsGiven setting o = (n : ℕ) → o ≡ Some n → (1 ≤ n) × (n ≤ greatest setting)
+
+first_is : (n m : ℕ) (rest : List ℕ) → n ∷ [] ≡ m ∷ rest → m ≡ n
+first_is n m rest e = cc
+
+given_values : (setting : Setting) (items : List Item) (n : ℕ) → AllByRecursion IsItem items → n ∷ [] ≡ values setting items → (1 ≤ n) × (n ≤ greatest setting)
+given_values setting [] n each e = absurd (cc)
+given_values setting (Operand word ∷ items) n each e = given_values setting items n each.1 e
+given_values Units (Joined Units text value ∷ items) n each e = subst (λ (k : ℕ). (1 ≤ k) × (k ≤ unit_limit)) (first_is n value (values Units items) e) (in_range 1 unit_limit text value each.0)
+given_values Units (Joined Handler text value ∷ items) n each e = given_values Units items n each.1 e
+given_values Handler (Joined Units text value ∷ items) n each e = given_values Handler items n each.1 e
+given_values Handler (Joined Handler text value ∷ items) n each e = subst (λ (k : ℕ). (1 ≤ k) × (k ≤ handler_limit)) (first_is n value (values Handler items) e) (in_range 1 handler_limit text value each.0)
+given_values Units (Apart Units text value ∷ items) n each e = subst (λ (k : ℕ). (1 ≤ k) × (k ≤ unit_limit)) (first_is n value (values Units items) e) (in_range 1 unit_limit text value each.0)
+given_values Units (Apart Handler text value ∷ items) n each e = given_values Units items n each.1 e
+given_values Handler (Apart Units text value ∷ items) n each e = given_values Handler items n each.1 e
+given_values Handler (Apart Handler text value ∷ items) n each e = subst (λ (k : ℕ). (1 ≤ k) × (k ≤ handler_limit)) (first_is n value (values Handler items) e) (in_range 1 handler_limit text value each.0)
+
+given_option : (setting : Setting) (items : List Item) (o : Option ℕ) → AllByRecursion IsItem items → none_or_one o ≡ values setting items → IsGiven setting o
+given_option setting items None each e n is = absurd (cc)
+given_option setting items (Some m) each e n is =
+    let same : m ≡ n = cc in subst (λ (k : ℕ). (1 ≤ k) × (k ≤ greatest setting)) same (given_values setting items m each e)
+
+or_default : (o : Option ℕ) (own most : ℕ) → ((n : ℕ) → o ≡ Some n → (1 ≤ n) × (n ≤ most)) → 1 ≤ own → own ≤ most → (1 ≤ unwrap_or o own) × (unwrap_or o own ≤ most)
+or_default None own most given least high = (least, high)
+or_default (Some n) own most given least high = given n refl
+
+alone_within : (tool : Option Tool) (units handler : Option ℕ) (kind : Kind) → without_limits tool units handler ≡ Some kind → IsWithinLimits kind
+alone_within (Some tool) None None kind e = let same : kinds.Tool tool ≡ kind = cc in subst IsWithinLimits same tt
+alone_within None units handler kind e = absurd (cc)
+alone_within (Some tool) None (Some h) kind e = absurd (cc)
+alone_within (Some tool) (Some u) handler kind e = absurd (cc)
+
+named_within : (b : Bool) (verb : List ℕ) (units handler : Option ℕ) (kind : Kind) → IsGiven Units units → IsGiven Handler handler → (if b then Some (kinds.Run (unwrap_or units default_units) (unwrap_or handler default_handler_units)) else without_limits (tool_of verb) units handler) ≡ Some kind → IsWithinLimits kind
+named_within true verb units handler kind given_units given_handler e =
+    let u = or_default units default_units unit_limit given_units (omega arith) (omega arith) in
+    let h = or_default handler default_handler_units handler_limit given_handler (omega arith) (omega arith) in
+    let same : kinds.Run (unwrap_or units default_units) (unwrap_or handler default_handler_units) ≡ kind = cc in
+    subst IsWithinLimits same (u.0, u.1, h.0, h.1)
+named_within false verb units handler kind given_units given_handler e = alone_within (tool_of verb) units handler kind e
+
+pub commands_are_within_limits : CommandsAreWithinLimits
+commands_are_within_limits words command e =
+    let r = ruled words command e in
+    named_within (bytes_eq r.verb (codes "run")) r.verb r.units r.handler command.kind
+    (given_option Units r.items r.units r.each r.units_once)
+    (given_option Handler r.items r.handler r.each r.handler_once) r.named

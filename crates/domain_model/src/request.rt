@@ -1,16 +1,23 @@
 //! The commands, and the options of a run.
-ghost use Rattle.domain_model.specs.Command.{CommandsAreByRules};
+ghost use Rattle.domain_model.specs.Command.{CommandsAreByRules, CommandsAreWithinLimits};
 
 /// What the words of the command line ask for.
 #[derive(Clone, Copy, Debug, PartialEq, Eq)]
 pub enum Kind {
     /// Run a script over images: at most so many units in the run, and in one handler.
     Run { units: u64, handler: u64 },
-    /// List the units of an image.
+    /// Make one file of another.
+    Tool(Tool),
+}
+
+/// What a command makes that takes one file and no options.
+#[derive(Clone, Copy, Debug, PartialEq, Eq)]
+pub enum Tool {
+    /// The list of the units of an image.
     Listing,
-    /// Write an image in the second version of the format.
+    /// The image in the second version of the format.
     Upgrade,
-    /// Write an image that is sealed.
+    /// The image, sealed.
     Seal,
 }
 
@@ -36,7 +43,8 @@ pub enum Place {
 
 /// Law: words are a command exactly where the rules of the command line say so, and then they are that one. The rules
 /// speak of operands and of options with their values; the definition that reads the words from the left has neither
-/// more commands nor fewer.
+/// more commands nor fewer. The limits of a run are in their ranges, whether they are given or not.
 pub fn commands_are_by_rules()
-    ensures { CommandsAreByRules }
+    ensures rules { CommandsAreByRules }
+    ensures limits { CommandsAreWithinLimits }
 {}

@@ -9,3 +9,5 @@ mod image;
 mod lines;
 #[cfg(test)]
 mod units;
+#[cfg(test)]
+mod verified;

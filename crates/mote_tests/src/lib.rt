@@ -1,6 +1,7 @@
 //! Tests of the public calls of the machine of domains, the mote and the program.
 //!
 //! - `rows`: runs and listings of `mote_sim`'s top call, with their faults and limits.
+//! - `words`: which words of the command line are a command, and its options.
 //! - `images`: images that the top call writes by `upgrade` and `seal`.
 //! - `turns`: turns of a mote of `mote_core` under small limits.
 //! - `scripts`: the events of a script of `event_script`, and what refuses it.
@@ -20,3 +21,5 @@ mod scripts;
 mod traces;
 #[cfg(test)]
 mod turns;
+#[cfg(test)]
+mod words;

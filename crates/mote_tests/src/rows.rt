@@ -104,9 +104,9 @@ const SEALED: &[u8] = b"SOSM\x02\x01\x02\0\0\0\0\0\0\x03\0\0\0\x80\x91\0\x03\x08
 /// The same module without the seal.
 const UNSEALED: &[u8] = b"SOSM\x02\x01\0\0\0\0\0\0\0\x03\0\0\0\x80\x91\0\x03\x08\x95";
 
-const SAID: &str = "0 load 1 0 0000\n0 run 1 0 0\n1 say 1 65\n2 done 1\n3 end idle\n";
+pub(crate) const SAID: &str = "0 load 1 0 0000\n0 run 1 0 0\n1 say 1 65\n2 done 1\n3 end idle\n";
 
-const LISTED: &str = "0 0000 ldi r24,65\n1 0001 kcall 8\n2 0003 ret\n";
+pub(crate) const LISTED: &str = "0 0000 ldi r24,65\n1 0001 kcall 8\n2 0003 ret\n";
 
 const SIXTEEN_LOADS: &str =
     "0 load 0\n0 load 1\n0 load 2\n0 load 3\n0 load 4\n0 load 5\n0 load 6\n0 load 7\n\
@@ -205,27 +205,6 @@ const RUNS: &[Row] = &[
         images: &[SAYS],
         status: Status::Done,
         text: "0 end idle\n",
-    },
-    Row {
-        words: "run",
-        script: LOAD,
-        images: &[SAYS],
-        status: Status::Usage,
-        text: "mote: usage\n",
-    },
-    Row {
-        words: "run s",
-        script: LOAD,
-        images: &[SAYS],
-        status: Status::Usage,
-        text: "mote: usage\n",
-    },
-    Row {
-        words: "run -s a",
-        script: LOAD,
-        images: &[SAYS],
-        status: Status::Usage,
-        text: "mote: usage\n",
     },
     Row {
         words: "run s a",
@@ -503,20 +482,6 @@ const LISTINGS: &[Row] = &[
     },
     Row {
         words: "list",
-        script: "",
-        images: &[SAYS],
-        status: Status::Usage,
-        text: "mote: usage\n",
-    },
-    Row {
-        words: "list a b",
-        script: "",
-        images: &[SAYS, SKIPS],
-        status: Status::Usage,
-        text: "mote: usage\n",
-    },
-    Row {
-        words: "list -x",
         script: "",
         images: &[SAYS],
         status: Status::Usage,
