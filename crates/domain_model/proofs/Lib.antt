@@ -23,3 +23,5 @@ pub mod UnloadLaws
 pub mod OthersLaws
 pub mod LawfulLaws
 pub mod FileLaws
+pub mod RanLaws
+pub mod CommandLaws

@@ -16,3 +16,4 @@ pub mod Laws
 pub mod Loader
 pub mod Remaining
 pub mod Facts
+pub mod Runners

@@ -42,7 +42,7 @@ abbrev pub RefusedCallsChangeNothing : Type 0
 RefusedCallsChangeNothing = (service : Option Service) (run : Running) (k : KernelState) (note : FaultNote)
     → (serve service run k).served ≡ Fault note → IsRefused k run (serve service run k) note
 
--- A block of the caller's is freed and handed over.
+-- A call for a block of the caller's is not refused.
 abbrev pub OwnBlocksAreServed : Type 0
 OwnBlocksAreServed = (run : Running) (k : KernelState) → Holds k.blocks run.domain (pair k.processor 24)
     → ((serve (Some Free) run k).served ≡ Back) × ((serve (Some ChangeOwn) run k).served ≡ Back)

@@ -18,7 +18,7 @@ pub fn units_act_as_instructions()
 
 /// Law: a kernel call leaves to others what is theirs. Every other domain keeps its blocks, each byte that changes is one that was given out
 /// and is cleared, and all but the answer, the queues and the blocks stays. A call whose block isn't the caller's is refused, and changes
-/// nothing; one of the caller's blocks is always freed and handed over.
+/// nothing; one for a block of the caller's is not refused.
 pub fn kernel_calls_leave_others()
     ensures others { CallsLeaveOthers }
     ensures refused { RefusedCallsChangeNothing }

@@ -2,5 +2,4 @@ pub mod Rows
 pub mod Sound
 pub mod Admission
 pub mod Lending
-pub mod Runners
 pub mod Values

@@ -1,7 +1,6 @@
 pub mod Agendas
-pub mod Least
+pub mod Closing
+pub mod Loading
 pub mod MoteLaws
 pub mod Prepared
-pub mod Retained
-pub mod Rooms
 pub mod RowLaws

@@ -1,3 +1,2 @@
-pub mod Kernel
-pub mod Value
 pub mod Rows
+pub mod Value

@@ -2,20 +2,48 @@
 use Rattle.std.specs.Prelude.{ℕ, List, Option}
 use Rattle.domain_model.specs.Prepared.{Prep}
 use Rattle.domain_model.specs.State.{KernelState, RunnerState, State}
+use Rattle.domain_model.specs.Act.{Acted}
+use Rattle.domain_model.specs.Runners.{ActedBy, seen_by}
+use Rattle.domain_model.specs.Turn.{Made, made}
+use Rattle.domain_model.specs.declared.event.Choice.{Choice}
 use Rattle.domain_model.specs.declared.event.LoaderEvent.{LoaderEvent}
 use Rattle.domain_model.specs.declared.event.Turned.{Turned}
 use Rattle.mote_core.specs.declared.limits.Limits.{Limits}
 
-abbrev pub state_of : KernelState → RunnerState → List (Option Prep) → List LoaderEvent → Limits → ℕ → ℕ → Turned → State
-state_of kernel runner images events limits total spent ended =
+-- What a mote with a runner of the type R holds.
+pub record MoteValue (R : Type 0) : Type 0 where
+  pub kernel : KernelState
+  pub runner : R
+  pub images : List (Option Prep)
+  pub events : List LoaderEvent
+  pub limits : Limits
+  pub total : ℕ
+  pub spent : ℕ
+  pub ended : Turned
+
+-- The state of the machine that it is in: of the runner the machine sees a part.
+abbrev pub state_of : {R : Type 0} → (R → RunnerState) → MoteValue R → State
+state_of part m =
     record {
-      kernel = kernel;
-      runner = runner;
-      images = images;
-      events = events;
-      unit_limit = limits.units;
-      handler_limit = limits.handler;
-      total = total;
-      spent = spent;
-      ended = ended;
+      kernel = m.kernel;
+      runner = part m.runner;
+      images = m.images;
+      events = m.events;
+      unit_limit = m.limits.units;
+      handler_limit = m.limits.handler;
+      total = m.total;
+      spent = m.spent;
+      ended = m.ended;
     }
+
+-- What its runner's next unit does.
+abbrev pub acted : {R : Type 0} → (R → RunnerState) → (KernelState → R → ActedBy R) → MoteValue R → Acted
+acted part acts m = seen_by part (acts m.kernel m.runner)
+
+-- What a turn makes of it, where its runner runs the unit.
+abbrev pub made_by : {R : Type 0} → (R → RunnerState) → (KernelState → R → ActedBy R) → Choice → MoteValue R → Made
+made_by part acts c m = made c (state_of part m) (acted part acts m)
+
+-- Of a plain runner the machine sees all.
+abbrev pub plain_state : MoteValue RunnerState → State
+plain_state m = state_of (λ r. r) m

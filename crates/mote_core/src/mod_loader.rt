@@ -5,24 +5,30 @@ ghost use Rattle.unit_code.specs.Listing.{FitsTogether};
 ghost use Rattle.unit_code.specs.Proper.{IsProper};
 ghost use Rattle.module_image.specs.Contents.{FaceRules};
 ghost use Rattle.domain_model.specs.Prepared.{is_unbuilt, marks_of, module_of, prepared, prepared_contents, prepared_units};
-ghost use Rattle.domain_model.specs.Units.{are_built, is_built};
+ghost use Rattle.domain_model.specs.Units.{are_built, is_built, service_of};
 ghost use Rattle.domain_model.specs.Good.{IsGoodImage};
 
-use crate::loaded::Loaded;
 use arrayvec::ArrayVec;
-use avr_isa::Instr;
 use domain_model::Refusal;
 use module_image::{Face, ImageView, SECOND_VERSION, parse};
 use mote_base::NoMemory;
 use mote_layout::PROVIDED;
 use std::alloc::Global;
 use std::marker::Model;
-use unit_code::{CodeError, Unit, UnitList, units};
+use unit_code::{BankCode, CodeError, Unit, UnitList, units};
 
 /// The kernel calls that are built, by number.
+const MALLOC: u8 = 0;
+
+const FREE: u8 = 1;
+
+const CHANGE_OWN: u8 = 2;
+
 const POST_SHORT: u8 = 3;
 
 const SAY: u8 = 8;
+
+const CLOCK: u8 = 9;
 
 const MY_ID: u8 = 11;
 
@@ -33,7 +39,7 @@ pub struct Loadable {
     state_size: u16,
     handler: u16,
     entries: ArrayVec<u16, PROVIDED>,
-    units: Vec<Unit>,
+    code: BankCode,
 }
 
 impl Model for Loadable {
@@ -41,14 +47,14 @@ impl Model for Loadable {
 
     ghost Value = { Module };
 
-    ghost view = { λ m. record { face = m.face; state_size = m.state_size; handler = m.handler; entries = m.entries.items; units = m.units.items } };
+    ghost view = { λ m. record { face = m.face; state_size = m.state_size; handler = m.handler; entries = m.entries.items; units = m.code.units } };
 }
 
 impl Loadable {
-    pub fn id(&self) -> u8
-        ensures { result ≡ self.now.face.id }
+    pub fn face(&self) -> &Face
+        ensures { result.now ≡ self.now.face }
     {
-        self.face.id
+        &self.face
     }
 
     pub fn state_size(&self) -> u16
@@ -63,29 +69,18 @@ impl Loadable {
         self.handler
     }
 
-    pub fn units(&self) -> &[Unit]
-        ensures { result.now ≡ self.now.units }
+    /// Its units. They are spelled by no words yet.
+    pub fn code(&self) -> &BankCode
+        ensures { result.now.units ≡ self.now.units }
     {
-        self.units.as_slice()
+        &self.code
     }
 
-    /// The module in a domain, with its state block at an address.
-    pub fn in_domain(&self, domain: u8, state: u16) -> Loaded
-        ensures { result ≡ record {
-          face = self.now.face;
-          domain = domain;
-          state = state;
-          handler = self.now.handler;
-          entries = self.now.entries;
-        } }
+    /// The units at which the functions that it provides begin.
+    pub fn entries(&self) -> &[u16]
+        ensures { result.now ≡ self.now.entries }
     {
-        Loaded {
-            face: self.face.copied(),
-            domain,
-            state,
-            handler: self.handler,
-            entries: numbers(self.entries.as_slice()),
-        }
+        self.entries.as_slice()
     }
 }
 
@@ -159,14 +154,18 @@ fn prepared_contents(
     }
     let marks = image.marks();
     match units(alloc, &image.code(), marks.as_slice(), image.sealed()) {
-        Ok(list) => Ok(prepared_units(image, list)),
+        Ok(list) => Ok(prepared_units(alloc, image, list)),
         Err(CodeError::NoMemory) => Err(NoMemory),
         Err(error) => Ok(Some(Err(Refusal::Code(error)))),
     }
 }
 
 // Prepares an image whose units were read.
-fn prepared_units(image: &ImageView<'_>, list: UnitList) -> Option<Result<Loadable, Refusal>>
+fn prepared_units(
+    alloc: Global,
+    image: &ImageView<'_>,
+    list: UnitList,
+) -> Option<Result<Loadable, Refusal>>
     requires face { FaceRules image.now.face }
     requires proper { IsProper list.units image.now.sealed }
     requires together { FitsTogether list (marks_of image.now) }
@@ -174,14 +173,14 @@ fn prepared_units(image: &ImageView<'_>, list: UnitList) -> Option<Result<Loadab
     ensures good { IsGoodImage result }
 {
     if are_built(list.units.as_slice()) {
-        Some(Ok(module_of(image, list)))
+        Some(Ok(module_of(alloc, image, list)))
     } else {
         None
     }
 }
 
 // The module of an image with these units.
-fn module_of(image: &ImageView<'_>, list: UnitList) -> Loadable
+fn module_of(alloc: Global, image: &ImageView<'_>, list: UnitList) -> Loadable
     requires marks { length list.marks ≡ length image.now.face.provided.items + 1 }
     requires provided { length image.now.face.provided.items ≤ provided_limit }
     ensures { result ≡ module_of image.now list }
@@ -191,7 +190,11 @@ fn module_of(image: &ImageView<'_>, list: UnitList) -> Loadable
         state_size: image.state_size(),
         handler: list.marks[0],
         entries: numbers(&list.marks[1..]),
-        units: list.units,
+        code: BankCode {
+            units: list.units,
+            words: Vec::new(alloc),
+            starts: Vec::new(alloc),
+        },
     }
 }
 
@@ -216,22 +219,18 @@ fn is_built(unit: &Unit) -> bool
     ensures { result ≡ is_built unit.now }
 {
     match unit {
-        Unit::Plain(instruction) => is_built_plain(instruction),
-        Unit::Store(instruction) => is_built_store(instruction),
-        Unit::KernelCall(number) => matches!(*number, POST_SHORT | SAY | MY_ID),
-        Unit::Return => true,
-        _ => false,
+        Unit::Load(_) | Unit::LocalCall(_) | Unit::SlotCall(_) | Unit::SlotIndirect => false,
+        Unit::KernelCall(number) => is_served(*number),
+        _ => true,
     }
 }
 
-fn is_built_plain(instruction: &Instr) -> bool
-    ensures { result ≡ is_built (Unit.Plain instruction.now) }
+// Whether the kernel serves the call with that number.
+fn is_served(number: u8) -> bool
+    ensures { result ≡ is_some (service_of number) }
 {
-    matches!(instruction, Instr::Ldi(_, _) | Instr::Mov(_, _))
-}
-
-fn is_built_store(instruction: &Instr) -> bool
-    ensures { result ≡ is_built (Unit.Store instruction.now) }
-{
-    matches!(instruction, Instr::StX(_))
+    matches!(
+        number,
+        MALLOC | FREE | CHANGE_OWN | POST_SHORT | SAY | CLOCK | MY_ID
+    )
 }

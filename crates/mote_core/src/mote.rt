@@ -1,33 +1,34 @@
 //! The mote and its turns.
 ghost use Rattle.std.specs.Prelude.{◌≡◌, ◌≢◌, ◌<◌, ◌≤◌, ◌==◌, [], IfOk, length};
 ghost use Rattle.std.specs.List.{AllByRecursion};
+ghost use Rattle.mote_base.specs.Messages.{front};
 ghost use Rattle.mote_layout.specs.Limits.{unit_limit, handler_limit};
-ghost use Rattle.domain_model.specs.Act.{act};
+ghost use Rattle.domain_model.specs.Free.{UnitStep};
 ghost use Rattle.domain_model.specs.Good.{Good, IsGoodImage, AreTimes};
 ghost use Rattle.domain_model.specs.Laws.{LawfulTurn};
 ghost use Rattle.domain_model.specs.Loader.{loader_events};
 ghost use Rattle.domain_model.specs.Remaining.{remaining};
-ghost use Rattle.domain_model.specs.State.{begins};
-ghost use Rattle.mote_base.specs.Messages.{front};
-ghost use Rattle.domain_model.specs.Turn.{choice, choose_inside, choose_outside, made};
+ghost use Rattle.domain_model.specs.Runners.{without_ran, without_ran_lines};
+ghost use Rattle.domain_model.specs.State.{begins, no_runner};
+ghost use Rattle.domain_model.specs.Turn.{May, choice, choose_inside, choose_outside};
+ghost use Rattle.mote_core.specs.Value.{acted, made_by, state_of};
 
 use crate::agenda::Agenda;
-use crate::kernel_call::Kernel;
 use crate::limits::Limits;
 use crate::mod_loader::Ready;
-use crate::turns::{come, dispatch, settle, stop};
-use crate::unit_run::PlainRunner;
+use crate::turns::{come, dispatch, run_one, settle, stack_pointer, stop};
 use domain_model::{Choice, FaultNote, Lines, LoaderEvent, Rule, Running, TraceLine, Turned};
 use event_script::Script;
+use kernel_call::{Kernel, Runner};
 use mote_base::NoMemory;
 use std::alloc::Global;
 use std::marker::Model;
 
-/// A mote in a run. It is seen as the state of the machine of domains.
+/// A mote in a run, with a runner of its units. By `state_of` it is seen as a state of the machine of domains.
 #[derive(Drop)]
-pub struct Mote {
+pub struct Mote<R: Runner> {
     kernel: Kernel,
-    runner: PlainRunner,
+    runner: R,
     images: Vec<Ready>,
     agenda: Agenda,
     limits: Limits,
@@ -36,38 +37,55 @@ pub struct Mote {
     ended: Turned,
 }
 
-impl Model for Mote {
+impl<R: Runner> Model for Mote<R> {
     ghost use Rattle.domain_model.specs.Good.{Good};
-    ghost use Rattle.domain_model.specs.State.{State};
-    ghost use Rattle.mote_core.specs.Value.{state_of};
+    ghost use Rattle.mote_core.specs.Value.{MoteValue, state_of};
 
-    ghost Value = { State };
+    ghost Value = { MoteValue R };
 
-    ghost view = { λ m. state_of m.kernel m.runner m.images.items m.agenda m.limits m.total m.spent m.ended };
+    ghost view = { λ m. record {
+      kernel = m.kernel;
+      runner = m.runner;
+      images = m.images.items;
+      events = m.agenda;
+      limits = m.limits;
+      total = m.total;
+      spent = m.spent;
+      ended = m.ended;
+    } };
 
-    ghost invariant = { λ m. Good
-        (state_of m.kernel m.runner m.images.items m.agenda m.limits m.total m.spent m.ended) };
+    ghost invariant = { λ m. Good (state_of R.Runner.part (record {
+      kernel = m.kernel;
+      runner = m.runner;
+      images = m.images.items;
+      events = m.agenda;
+      limits = m.limits;
+      total = m.total;
+      spent = m.spent;
+      ended = m.ended;
+    })) };
 }
 
-impl Mote {
-    /// A mote at the start of a run.
+impl<R: Runner> Mote<R> {
+    /// A mote at the start of a run, over a runner that holds no units yet.
     pub fn new(
         alloc: Global,
         images: Vec<Ready>,
         script: Script,
         limits: Limits,
-    ) -> Result<Mote, NoMemory>
+        runner: R,
+    ) -> Result<Mote<R>, NoMemory>
         requires images { AllByRecursion IsGoodImage images.items }
         requires times { AreTimes (loader_events script.events.items) }
         requires units { limits.units ≤ unit_limit }
         requires least { 1 ≤ limits.handler }
         requires greatest { limits.handler ≤ handler_limit }
-        ensures begins { IfOk result (λ m.
-            m ≡ begins images.items (loader_events script.events.items) limits.units limits.handler) }
-        ensures good { IfOk result (λ m. Good m) }
+        requires runner { R.Runner.part runner ≡ no_runner }
+        ensures begins { IfOk result (λ m. state_of R.Runner.part m ≡
+            begins images.items (loader_events script.events.items) limits.units limits.handler) }
+        ensures good { IfOk result (λ m. Good (state_of R.Runner.part m)) }
     {
         let kernel = Kernel::new(alloc)?;
-        let runner = PlainRunner::new(alloc)?;
         let agenda = Agenda::new(alloc, &script)?;
         Ok(Mote {
             kernel,
@@ -88,12 +106,19 @@ impl Mote {
         self.total
     }
 
-    /// Makes one turn and writes its lines. After the end of the run it makes none, and tells the same end.
+    /// Makes one turn and writes its lines, with those of the instructions that the runner ran (`Ran`). After the end of
+    /// the run it makes none, and tells the same end.
     pub fn turn(&mut self, lines: &mut Lines) -> Turned
         requires { lines.old ≡ [] }
-        ensures lawful { LawfulTurn self.old self.new lines.new }
+        ensures state { state_of R.Runner.part self.new ≡
+            (made_by R.Runner.part R.Runner.acts (choice (state_of R.Runner.part self.old)) self.old).state }
+        ensures lines { lines.new ≡
+            (made_by R.Runner.part R.Runner.acts (choice (state_of R.Runner.part self.old)) self.old).lines }
+        ensures lawful { LawfulTurn (state_of R.Runner.part self.old) (state_of R.Runner.part self.new)
+            (without_ran lines.new) }
         ensures ended { result ≡ self.new.ended }
-        ensures fewer { self.old.ended ≡ Turned.More → remaining self.new < remaining self.old }
+        ensures fewer { self.old.ended ≡ Turned.More →
+            remaining (state_of R.Runner.part self.new) < remaining (state_of R.Runner.part self.old) }
         ensures stays { self.old.ended ≢ Turned.More → (self.new ≡ self.old) × (lines.new ≡ []) }
     {
         let next = self.choose();
@@ -103,22 +128,22 @@ impl Mote {
 
     // Which turn comes next.
     fn choose(&self) -> Choice
-        ensures next { result ≡ choice self.now }
-        ensures good { Good self.now }
+        ensures next { result ≡ choice (state_of R.Runner.part self.now) }
+        ensures good { Good (state_of R.Runner.part self.now) }
     {
         match self.ended {
             Turned::More => {}
             Turned::EndIdle => return Choice::Stays,
             Turned::EndBudget => return Choice::Stays,
         }
-        match self.kernel.running() {
+        match self.kernel.handler() {
             Some(run) => self.choose_inside(run),
             None => self.choose_outside(),
         }
     }
 
     fn choose_inside(&self, run: Running) -> Choice
-        ensures { result ≡ choose_inside (self.now.total == self.now.unit_limit) run self.now }
+        ensures { result ≡ choose_inside (self.now.total == self.now.limits.units) run (state_of R.Runner.part self.now) }
     {
         if self.total == self.limits.units {
             Choice::Budgets
@@ -155,9 +180,12 @@ impl Mote {
 
     fn take(&mut self, next: Choice, lines: &mut Lines)
         requires empty { lines.old ≡ [] }
-        requires chosen { choice self.old ≡ next }
-        ensures state { self.new ≡ (made next self.old (act self.old.kernel self.old.runner)).state }
-        ensures lines { lines.new ≡ (made next self.old (act self.old.kernel self.old.runner)).lines }
+        requires chosen { choice (state_of R.Runner.part self.old) ≡ next }
+        ensures state { state_of R.Runner.part self.new ≡ (made_by R.Runner.part R.Runner.acts next self.old).state }
+        ensures lines { lines.new ≡ (made_by R.Runner.part R.Runner.acts next self.old).lines }
+        ensures may { May next (state_of R.Runner.part self.old)
+            (without_ran_lines (acted R.Runner.part R.Runner.acts self.old)) }
+        ensures stays { next ≡ Choice.Stays → self.new ≡ self.old }
     {
         match next {
             Choice::Stays => {}
@@ -173,11 +201,10 @@ impl Mote {
 
     fn come(&mut self, event: &LoaderEvent, lines: &mut Lines)
         requires empty { lines.old ≡ [] }
-        requires chosen { choice self.old ≡ Choice.Comes event.now }
-        ensures state { self.new ≡
-            (made (Choice.Comes event.now) self.old (act self.old.kernel self.old.runner)).state }
-        ensures lines { lines.new ≡
-            (made (Choice.Comes event.now) self.old (act self.old.kernel self.old.runner)).lines }
+        requires chosen { choice (state_of R.Runner.part self.old) ≡ Choice.Comes event.now }
+        ensures state { state_of R.Runner.part self.new ≡
+            (made_by R.Runner.part R.Runner.acts (Choice.Comes event.now) self.old).state }
+        ensures lines { lines.new ≡ (made_by R.Runner.part R.Runner.acts (Choice.Comes event.now) self.old).lines }
     {
         self.agenda.pass();
         self.spent = 0;
@@ -192,26 +219,29 @@ impl Mote {
 
     fn dispatch(&mut self, lines: &mut Lines)
         requires empty { lines.old ≡ [] }
-        requires chosen { choice self.old ≡ Choice.Dispatches }
-        ensures state { self.new ≡ (made Choice.Dispatches self.old (act self.old.kernel self.old.runner)).state }
-        ensures lines { lines.new ≡ (made Choice.Dispatches self.old (act self.old.kernel self.old.runner)).lines }
+        requires chosen { choice (state_of R.Runner.part self.old) ≡ Choice.Dispatches }
+        ensures state { state_of R.Runner.part self.new ≡
+            (made_by R.Runner.part R.Runner.acts Choice.Dispatches self.old).state }
+        ensures lines { lines.new ≡ (made_by R.Runner.part R.Runner.acts Choice.Dispatches self.old).lines }
     {
         self.spent = 0;
         dispatch(&mut self.kernel, &mut self.runner, lines);
     }
 
     fn jump(&mut self, now: u64)
-        requires chosen { choice self.old ≡ Choice.Jumps now }
-        ensures state { self.new ≡ (made (Choice.Jumps now) self.old (act self.old.kernel self.old.runner)).state }
+        requires chosen { choice (state_of R.Runner.part self.old) ≡ Choice.Jumps now }
+        ensures state { state_of R.Runner.part self.new ≡
+            (made_by R.Runner.part R.Runner.acts (Choice.Jumps now) self.old).state }
     {
         self.kernel.set_clock(now);
     }
 
     fn idle(&mut self, lines: &mut Lines)
         requires empty { lines.old ≡ [] }
-        requires chosen { choice self.old ≡ Choice.Idles }
-        ensures state { self.new ≡ (made Choice.Idles self.old (act self.old.kernel self.old.runner)).state }
-        ensures lines { lines.new ≡ (made Choice.Idles self.old (act self.old.kernel self.old.runner)).lines }
+        requires chosen { choice (state_of R.Runner.part self.old) ≡ Choice.Idles }
+        ensures state { state_of R.Runner.part self.new ≡
+            (made_by R.Runner.part R.Runner.acts Choice.Idles self.old).state }
+        ensures lines { lines.new ≡ (made_by R.Runner.part R.Runner.acts Choice.Idles self.old).lines }
     {
         lines.add(TraceLine::EndIdle {
             time: self.kernel.clock(),
@@ -221,9 +251,10 @@ impl Mote {
 
     fn spend(&mut self, lines: &mut Lines)
         requires empty { lines.old ≡ [] }
-        requires chosen { choice self.old ≡ Choice.Budgets }
-        ensures state { self.new ≡ (made Choice.Budgets self.old (act self.old.kernel self.old.runner)).state }
-        ensures lines { lines.new ≡ (made Choice.Budgets self.old (act self.old.kernel self.old.runner)).lines }
+        requires chosen { choice (state_of R.Runner.part self.old) ≡ Choice.Budgets }
+        ensures state { state_of R.Runner.part self.new ≡
+            (made_by R.Runner.part R.Runner.acts Choice.Budgets self.old).state }
+        ensures lines { lines.new ≡ (made_by R.Runner.part R.Runner.acts Choice.Budgets self.old).lines }
     {
         lines.add(TraceLine::EndBudget {
             time: self.kernel.clock(),
@@ -233,26 +264,28 @@ impl Mote {
 
     fn watch(&mut self, run: &Running, lines: &mut Lines)
         requires empty { lines.old ≡ [] }
-        requires chosen { choice self.old ≡ Choice.Watches run.now }
-        ensures state { self.new ≡
-            (made (Choice.Watches run.now) self.old (act self.old.kernel self.old.runner)).state }
-        ensures lines { lines.new ≡
-            (made (Choice.Watches run.now) self.old (act self.old.kernel self.old.runner)).lines }
+        requires chosen { choice (state_of R.Runner.part self.old) ≡ Choice.Watches run.now }
+        ensures state { state_of R.Runner.part self.new ≡
+            (made_by R.Runner.part R.Runner.acts (Choice.Watches run.now) self.old).state }
+        ensures lines { lines.new ≡ (made_by R.Runner.part R.Runner.acts (Choice.Watches run.now) self.old).lines }
     {
         let note = FaultNote {
             rule: Rule::Watchdog,
-            address: self.kernel.cpu().sp(),
+            address: stack_pointer(&self.kernel),
         };
         stop(note, run, &mut self.kernel, &mut self.runner, lines);
     }
 
     fn act(&mut self, run: &Running, lines: &mut Lines)
         requires empty { lines.old ≡ [] }
-        requires chosen { choice self.old ≡ Choice.Acts run.now }
-        ensures state { self.new ≡ (made (Choice.Acts run.now) self.old (act self.old.kernel self.old.runner)).state }
-        ensures lines { lines.new ≡ (made (Choice.Acts run.now) self.old (act self.old.kernel self.old.runner)).lines }
+        requires chosen { choice (state_of R.Runner.part self.old) ≡ Choice.Acts run.now }
+        ensures state { state_of R.Runner.part self.new ≡
+            (made_by R.Runner.part R.Runner.acts (Choice.Acts run.now) self.old).state }
+        ensures lines { lines.new ≡ (made_by R.Runner.part R.Runner.acts (Choice.Acts run.now) self.old).lines }
+        ensures may { UnitStep self.old.kernel (R.Runner.part self.old.runner)
+            (without_ran_lines (acted R.Runner.part R.Runner.acts self.old)) }
     {
-        let ending = self.runner.run_unit(run, &mut self.kernel, lines);
+        let ending = run_one(&mut self.kernel, &mut self.runner, lines);
         settle(ending, run, &mut self.kernel, &mut self.runner, lines);
         let now = self.kernel.clock();
         self.kernel.set_clock(now + 1);

@@ -6,9 +6,10 @@ use Rattle.domain_model.specs.declared.line.TraceLine.{TraceLine}
 use Rattle.domain_model.specs.Free.{SameState}
 use Rattle.domain_model.specs.Good.{Good}
 use Rattle.domain_model.specs.Laws.{LawfulRunFrom}
-use Rattle.domain_model.specs.State.{State, Input, start}
+use Rattle.domain_model.specs.State.{RunnerState, State, Input, start}
 use Rattle.trace_text.specs.Text.{texts}
 use Rattle.domain_model.specs.Turn.{is_unstated}
+use Rattle.mote_core.specs.Value.{MoteValue, plain_state}
 use Rattle.mote_sim.specs.Ending.{Answered, CutOff}
 use Rattle.mote_sim.specs.Outcome.{Answers, outcome_with}
 use Rattle.mote_sim.specs.Playing.{StandsAt, Played, Stopped}
@@ -26,9 +27,9 @@ pub record Standing (s : State) (i : Option Input) : Type 0 where
   pub starts : s ≡ start input
   pub good : Good s
 
-pub standing : (s : State) (i : Option Input) → StandsAt (Some s) i → Standing s i
-standing s None stands = absurd stands
-standing s (Some i) stands = record { input = i; is = refl; starts = stands.0; good = stands.1 }
+pub standing : (m : MoteValue RunnerState) (i : Option Input) → StandsAt (Some m) i → Standing (plain_state m) i
+standing m None stands = absurd stands
+standing m (Some i) stands = record { input = i; is = refl; starts = stands.0; good = stands.1 }
 
 pub goes_on : {s : State} {i : Option Input} → Standing s i → s.ended ≡ More
 goes_on stands = ap (λ (t : State). t.ended) stands.starts

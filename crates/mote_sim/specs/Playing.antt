@@ -7,8 +7,9 @@ use Rattle.domain_model.specs.declared.line.TraceLine.{TraceLine}
 use Rattle.domain_model.specs.Good.{Good, IsGoodImage}
 use Rattle.domain_model.specs.Laws.{LawfulRunFrom}
 use Rattle.domain_model.specs.Prepared.{Prep, prepared}
-use Rattle.domain_model.specs.State.{State, Input, start}
+use Rattle.domain_model.specs.State.{RunnerState, State, Input, start}
 use Rattle.trace_text.specs.Text.{texts}
+use Rattle.mote_core.specs.Value.{MoteValue, plain_state}
 use Rattle.mote_sim.specs.Trace.{are_built}
 
 -- The lines of a lawful run from that state were put.
@@ -34,8 +35,8 @@ AreReady (Some ready) images =
     (are_built images ≡ true) × (ready.items ≡ map prepared images) × AllByRecursion IsGoodImage ready.items
 
 -- There is a mote exactly where there is an input, and it stands at the start of a run of it.
-abbrev pub StandsAt : Option State → Option Input → Type 0
+abbrev pub StandsAt : Option (MoteValue RunnerState) → Option Input → Type 0
 StandsAt None None = ⊤
 StandsAt None (Some i) = ⊥
-StandsAt (Some s) None = ⊥
-StandsAt (Some s) (Some i) = (s ≡ start i) × Good s
+StandsAt (Some m) None = ⊥
+StandsAt (Some m) (Some i) = (plain_state m ≡ start i) × Good (plain_state m)

@@ -1,9 +1,12 @@
 //! A run: the turns of a mote, and the puts of their lines in pieces.
-ghost use Rattle.std.specs.Prelude.{◌≡◌, ◌<◌, ◌++◌, OnOk};
+ghost use Rattle.std.specs.Prelude.{◌≡◌, ◌<◌, ◌++◌, [], OnOk};
 ghost use Rattle.arrayvec.specs.ArrayVec.{array_vec_len};
 ghost use Rattle.mote_base.specs.Written.{Puts};
 ghost use Rattle.domain_model.specs.Good.{Good};
+ghost use Rattle.domain_model.specs.Laws.{LawfulTurn};
+ghost use Rattle.domain_model.specs.Remaining.{remaining};
 ghost use Rattle.trace_text.specs.Text.{text, texts};
+ghost use Rattle.mote_core.specs.Value.{plain_state};
 ghost use Rattle.mote_sim.specs.Playing.{Plays};
 ghost use Rattle.mote_sim.specs.Pieces.{LeadsBySome, Moves, piece_bytes};
 
@@ -12,6 +15,7 @@ use domain_model::{Lines, TraceLine, Turned};
 use mote_base::{Failed, LINE_BYTES, Line, Sink};
 use mote_core::Mote;
 use trace_text::put_line;
+use unit_run::PlainRunner;
 
 // How many bytes a piece of a trace has at least, but for the last piece.
 const PIECE_BYTES: usize = 4096;
@@ -74,17 +78,31 @@ fn tell_lines<K: Sink>(
     Ok(())
 }
 
+// Makes one turn of a mote whose runner runs the units themselves: each of its lines is one of the machine's.
+fn make_turn(mote: &mut Mote<PlainRunner>, lines: &mut Lines) -> Turned
+    requires { lines.old ≡ [] }
+    ensures lawful { LawfulTurn (plain_state mote.old) (plain_state mote.new) lines.new }
+    ensures ended { result ≡ mote.new.ended }
+    ensures fewer { mote.old.ended ≡ Turned.More → remaining (plain_state mote.new) < remaining (plain_state mote.old) }
+{
+    mote.turn(lines)
+}
+
 /// Makes turns of a mote that stands at the start of a run until it ends, and puts their lines: a piece as soon as
 /// `PIECE_BYTES` are gathered, and at the end what is left. No put follows one that failed, and no turn either.
-pub fn play<K: Sink>(mote: &mut Mote, lines: &mut Lines, out: &mut K) -> Result<(), Failed>
-    requires good { Good mote.old }
+pub fn play<K: Sink>(
+    mote: &mut Mote<PlainRunner>,
+    lines: &mut Lines,
+    out: &mut K,
+) -> Result<(), Failed>
+    requires good { Good (plain_state mote.old) }
     requires going { mote.old.ended ≡ Turned.More }
-    ensures { Plays K.written K.faults (LeadsBySome K.leads) out.old out.new mote.old result }
+    ensures { Plays K.written K.faults (LeadsBySome K.leads) out.old out.new (plain_state mote.old) result }
 {
     let mut gathered: Gathered = ArrayVec::new();
     'turns: loop {
         lines.clear();
-        let turned = mote.turn(lines);
+        let turned = make_turn(mote, lines);
         tell_lines(out, &mut gathered, lines.items())?;
         match turned {
             Turned::More => {}

@@ -9,8 +9,8 @@ use std::test::Fail;
 /// Module 1 says byte 65: E481 940E F108 9508.
 pub(crate) const SAYS: &[u8] = b"SOSM\x01\x01\0\0\0\0\0\0\0\x04\0\x81\xE4\x0E\x94\x08\xF1\x08\x95";
 
-/// Module 1 does nothing first, by an instruction that is not built: 0000 9508.
-const UNBUILT: &[u8] = b"SOSM\x01\x01\0\0\0\0\0\0\0\x02\0\0\0\x08\x95";
+/// Module 1 calls itself, by a unit that is not built: DFFF 9508.
+const UNBUILT: &[u8] = b"SOSM\x01\x01\0\0\0\0\0\0\0\x02\0\xFF\xDF\x08\x95";
 
 /// The image of the module that says 65, without its last byte.
 const SAYS_CUT: &[u8] = b"SOSM\x01\x01\0\0\0\0\0\0\0\x04\0\x81\xE4\x0E\x94\x08\xF1\x08";
@@ -464,7 +464,7 @@ const LISTINGS: &[Row] = &[
         script: "",
         images: &[UNBUILT],
         status: Status::Done,
-        text: "0 0000 nop\n1 0001 ret\n",
+        text: "0 0000 rcall .0\n1 0001 ret\n",
     },
     Row {
         words: "list a",

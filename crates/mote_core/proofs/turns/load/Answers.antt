@@ -1,17 +1,25 @@
-use Rattle.std.proofs.Common.{◌∙◌, sym, ap, length, ◌<◌, []}
-use Rattle.mote_layout.specs.Memory.{domain_count}
-use Rattle.domain_model.specs.State.{Loaded, KernelState}
-use Rattle.domain_model.proofs.BlockLaws.{free_domain_is_free}
-use Rattle.mote_core.proofs.Rooms.{room_for_module}
-use Rattle.domain_model.proofs.UnitLaws.{proper_fits}
+use Rattle.std.proofs.Common.{◌≡◌, ◌∙◌, sym}
+use Rattle.kernel_call.specs.Admission.{admission}
+use Rattle.kernel_call.specs.declared.admitted.Admitted.TheVariants.{Placed}
+use Rattle.mote_core.proofs.Loading.{newcomer_of, placing, started_kernel, started_lines}
 use Rattle.mote_core.proofs.turns.load.Goals as goal
 
-pub add_module-requires : goal.add_module-requires
-add_module-requires c =
-    let free = free_domain_is_free c.args.k.now.modules c.in-Some.domain (sym c.free_domain.ensures ∙ c.in-Some.is) in
-    let row : Loaded = record { face = c.args.loadable.now.face; domain = c.in-Some.domain; state = 0; handler = 0; entries = [] } in
-    let room : length c.args.k.now.modules < domain_count = room_for_module c.args.r.now c.args.k.now.modules row c.requires.machine.distinct c.requires.machine.modules free.0 free.1 (rw c.id.ensures at (sym c.is_loaded.ensures ∙ c.if-is_loaded.false)) in
-    rw (ap (λ (k : KernelState). k.modules) c.give_state.ensures.rest) room
+pub returns-in-Placed-clause-kernel : goal.returns-in-Placed-clause-kernel
+returns-in-Placed-clause-kernel g c =
+    let answer : Placed c.in-Placed.domain ≡ (admission c.args.k.now (newcomer_of c.args.loadable.now)).answer =
+    sym c.in-Placed.is ∙ (rw (c.face.ensures, c.state_size.ensures, c.handler.ensures, c.entries.ensures) at c.admit.ensures.answer) in
+    let kernel : c.admit.new.self ≡ (admission c.args.k.now (newcomer_of c.args.loadable.now)).kernel =
+    rw (c.face.ensures, c.state_size.ensures, c.handler.ensures, c.entries.ensures) at c.admit.ensures.kernel in
+    started_kernel c.args.loadable.now c.in-Placed.domain c.args.image c.args.k.now (g.R.Runner.part c.args.r.now) c.admit.new.self _
+    (placing c.args.loadable.now c.in-Placed.domain c.args.image c.args.k.now (g.R.Runner.part c.args.r.now) c.admit.new.self answer kernel)
+    c.start.new.k c.start.ensures.kernel
 
-pub place-requires-clause-fits : goal.place-requires-clause-fits
-place-requires-clause-fits c = rw c.units.ensures (proper_fits c.args.loadable.now.units c.requires.loadable.units.proper)
+pub returns-in-Placed-clause-lines : goal.returns-in-Placed-clause-lines
+returns-in-Placed-clause-lines g c =
+    let answer : Placed c.in-Placed.domain ≡ (admission c.args.k.now (newcomer_of c.args.loadable.now)).answer =
+    sym c.in-Placed.is ∙ (rw (c.face.ensures, c.state_size.ensures, c.handler.ensures, c.entries.ensures) at c.admit.ensures.answer) in
+    let kernel : c.admit.new.self ≡ (admission c.args.k.now (newcomer_of c.args.loadable.now)).kernel =
+    rw (c.face.ensures, c.state_size.ensures, c.handler.ensures, c.entries.ensures) at c.admit.ensures.kernel in
+    started_lines c.args.loadable.now c.in-Placed.domain c.args.image c.args.k.now (g.R.Runner.part c.args.r.now) c.admit.new.self _
+    (placing c.args.loadable.now c.in-Placed.domain c.args.image c.args.k.now (g.R.Runner.part c.args.r.now) c.admit.new.self answer kernel)
+    c.start.new.lines c.start.ensures.lines

@@ -1,7 +1,7 @@
-use Rattle.mote_core.proofs.RowLaws.{named_in_domain}
+use Rattle.mote_core.proofs.RowLaws.{named_in_domain, row_is}
 use Rattle.mote_core.proofs.turns.purge_ending.Goals as goal
 
-pub empty-requires : goal.empty-requires
-empty-requires c = record {
-  domain = rw c.row-row.ensures (named_in_domain c.args.k.now.modules c.in-Some.id c.in-Some-module_named.loaded.now c.requires.modules c.in-Some-module_named.ensures);
-}
+pub clear-requires : goal.clear-requires
+clear-requires g c =
+    let row = row_is _ _ c.in-Some-module_named.ensures.row in
+    rw row.is (named_in_domain c.args.k.now.modules c.in-Some.id row.loaded c.requires.modules row.found)

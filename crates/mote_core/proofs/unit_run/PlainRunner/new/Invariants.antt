@@ -1,6 +1,0 @@
-use Rattle.std.proofs.Common.{◌≡◌, replicate, []}
-use Rattle.mote_core.proofs.unit_run.PlainRunner.new.Given as goal
-
--- as many empty banks as were made
-abbrev pub invariant-loop-domain : goal.invariant-loop-domain
-invariant-loop-domain l = l.banks.items ≡ replicate l._domain []
