@@ -13,6 +13,7 @@ use std::test::Fail;
 use unit_code::{CodeError, Shape, Unit, spelled_len, units};
 
 /// The words of the units of original words, each template in its long shape.
+#[tactic(auto, using(crate::proofs::Shapes::long_shapes))]
 fn long_spelling(
     rt: &impl Abort,
     alloc: Global,
