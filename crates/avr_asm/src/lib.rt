@@ -1,0 +1,16 @@
+//! An assembler: a module as text.
+#![tactic(auto)]
+
+mod cut;
+mod error;
+mod instruction;
+mod operand;
+mod reading;
+mod row;
+mod rows;
+mod stage;
+mod words;
+mod writing;
+
+pub use error::{AsmError, SourceError};
+pub use rows::read_rows;
