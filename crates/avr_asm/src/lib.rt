@@ -4,6 +4,7 @@
 mod cut;
 mod error;
 mod instruction;
+mod judge;
 mod operand;
 mod reading;
 mod row;

@@ -1,16 +1,17 @@
 //! From a text to its rows.
-ghost use Rattle.std.specs.Prelude.{◌≡◌, ◌≤◌, ◌<◌, ◌+◌, ℕ, suc, IfOk, length, map};
+ghost use Rattle.std.specs.Prelude.{◌≡◌, ◌≤◌, ◌<◌, ◌+◌, ℕ, suc, IfOk, IfErr, IfSome, ◌^◌, length, map};
 ghost use Rattle.unit_code.specs.Lengths.{instruction_length};
 ghost use Rattle.avr_asm.specs.Rows.{place_after, rows_of, unit_after, unit_words};
 ghost use Rattle.avr_asm.specs.Seen.{row_seen, seen_option};
 ghost use Rattle.avr_asm.specs.Text.{lines_in};
 
+use crate::error::AsmError;
 use crate::cut::{first_line, is_blank};
 use crate::reading::said;
 use crate::row::{Row, Said};
 use crate::stage::{START, behind, kept};
 use avr_isa::Instr;
-use std::alloc::{AllocError, Global};
+use std::alloc::Global;
 use unit_code::Unit;
 
 fn instruction_words(instruction: &Instr) -> u64
@@ -39,22 +40,32 @@ pub fn unit_words(unit: &Unit) -> u64
     }
 }
 
-/// How many units a line has, and how many words of code.
-fn sizes(says: &Option<Said<'_>>) -> (u64, u64)
-    ensures unit { (k : ℕ) → unit_after k (seen_option says.now) ≡ k + result.0 }
-    ensures place { (place : ℕ) → place_after place (seen_option says.now) ≡ place + result.1 }
-    ensures few { (result.0 ≤ 1) × (result.1 ≤ 3) }
+fn unit_after(unit: u64, says: &Option<Said<'_>>) -> u64
+    requires { unit < 2 ^ 63 }
+    ensures after { result ≡ unit_after unit (seen_option says.now) }
+    ensures one { result ≤ unit + 1 }
 {
     match says {
-        Some(Said::Item(unit, _)) => (1, unit_words(unit)),
-        _ => (0, 0),
+        Some(Said::Item(_, _)) => unit + 1,
+        _ => unit,
+    }
+}
+
+/// None where the words are too many to be counted.
+fn place_after(place: u64, says: &Option<Said<'_>>) -> Option<u64>
+    ensures { IfSome result (λ after. after ≡ place_after place (seen_option says.now)) }
+{
+    match says {
+        Some(Said::Item(unit, _)) => place.checked_add(unit_words(unit)),
+        _ => Some(place),
     }
 }
 
 /// The rows of a text, and the number of the line behind its last.
-pub fn read_rows(alloc: Global, text: &[u8]) -> Result<(Vec<Row<'_>>, u64), AllocError>
+pub fn read_rows(alloc: Global, text: &[u8]) -> Result<(Vec<Row<'_>>, u64), AsmError>
     ensures rows { IfOk result (λ found. map row_seen found.0.items ≡ rows_of (lines_in text.now)) }
     ensures end { IfOk result (λ found. found.1 ≡ suc (length (lines_in text.now))) }
+    ensures err { IfErr result (λ e. e ≡ AsmError.NoMemory) }
 {
     let mut found = Vec::new(alloc);
     let mut line = 1;
@@ -69,9 +80,11 @@ pub fn read_rows(alloc: Global, text: &[u8]) -> Result<(Vec<Row<'_>>, u64), Allo
             let says = said(alloc, first)?;
             found.push(Row { line, stage, unit, place, says })?;
             stage = kept(stage, behind(stage, &says));
-            let (units, words) = sizes(&says);
-            unit += units;
-            place += words;
+            unit = unit_after(unit, &says);
+            let Some(next) = place_after(place, &says) else {
+                return Err(AsmError::NoMemory);
+            };
+            place = next;
         }
         line += 1;
     }

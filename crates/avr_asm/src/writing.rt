@@ -50,13 +50,20 @@ fn put_provides(out: &mut Vec<u8>, func: u8, proto: &[u8], goal: &[u8]) -> Resul
     put_two(out, b" .", goal)
 }
 
-fn put_subscribes(out: &mut Vec<u8>, provider: u8, func: u8, proto: &[u8]) -> Result<(), AllocError>
-    ensures { IfOk result (λ _. out.new.items ≡ out.old.items
-        ++ (codes "subscribes " ++ (decimal provider ++ (codes " " ++ (decimal func ++ (codes " " ++ proto.now)))))) }
+fn put_function(out: &mut Vec<u8>, func: u8, proto: &[u8]) -> Result<(), AllocError>
+    ensures { IfOk result (λ _. out.new.items ≡ out.old.items ++ (codes " " ++ (decimal func ++ (codes " " ++ proto.now)))) }
 {
-    put_numbered(out, b"subscribes ", u16::from(provider))?;
     put_numbered(out, b" ", u16::from(func))?;
     put_two(out, b" ", proto)
+}
+
+/// A text, two numbers and a prototype.
+fn put_subscription(out: &mut Vec<u8>, text: &[u8], provider: u8, func: u8, proto: &[u8]) -> Result<(), AllocError>
+    ensures { IfOk result (λ _. out.new.items ≡ out.old.items
+        ++ (text.now ++ (decimal provider ++ (codes " " ++ (decimal func ++ (codes " " ++ proto.now)))))) }
+{
+    put_numbered(out, text, u16::from(provider))?;
+    put_function(out, func, proto)
 }
 
 fn put_branch(out: &mut Vec<u8>, name: &[u8], bit: u8, goal: &[u8]) -> Result<(), AllocError>
@@ -101,7 +108,7 @@ fn put_text(out: &mut Vec<u8>, says: &Said<'_>) -> Result<(), AllocError>
         Said::Handler(goal) => put_two(out, b"handler .", goal),
         Said::Sealed => put(out, b"sealed"),
         Said::Provides { func, proto, goal } => put_provides(out, *func, proto, goal),
-        Said::Subscribes { provider, func, proto } => put_subscribes(out, *provider, *func, proto),
+        Said::Subscribes { provider, func, proto } => put_subscription(out, b"subscribes ", *provider, *func, proto),
         Said::Const(pairs) => put_two(out, b"const ", pairs),
         Said::Code => put(out, b"code"),
         Said::Label(name) => put_two(out, name, b":"),
