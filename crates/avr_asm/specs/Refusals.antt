@@ -46,8 +46,8 @@ some_goal (c ∷ cs) = Some (c ∷ cs)
 
 -- the goal of a line that has one
 abbrev pub goal_of : Option Line → Option (List ℕ)
-goal_of (Some (Handler goal)) = Some goal
-goal_of (Some (Provides func proto goal)) = Some goal
+goal_of (Some (Handler goal)) = some_goal goal
+goal_of (Some (Provides func proto goal)) = some_goal goal
 goal_of (Some (Item unit goal)) = some_goal goal
 goal_of _ = None
 
@@ -109,14 +109,14 @@ leads_astray all total r (Some goal) = is_off all total r (resolved all goal)
 
 -- 4: a skip without two further units behind it or over a group, or the last unit where control runs past it or the code
 -- is too long. Where a unit leads has no part in it.
-abbrev pub seals : Option Line → Bool → Bool
-seals (Some Sealed) others = true
-seals _ others = others
+abbrev pub seals : Option Line → Bool
+seals (Some Sealed) = true
+seals _ = false
 
 -- whether a line seals the text
 abbrev pub is_sealed : List Row → Bool
 is_sealed [] = false
-is_sealed (r ∷ rs) = seals r.says (is_sealed rs)
+is_sealed (r ∷ rs) = seals r.says || is_sealed rs
 
 abbrev pub onto_kinds : Bool → Option Line → List Unit → List Unit
 onto_kinds sealed (Some (Item unit goal)) others = guarded sealed unit ∷ others

@@ -10,6 +10,7 @@ mod reading;
 mod row;
 mod rows;
 mod stage;
+mod units;
 mod words;
 mod writing;
 
