@@ -2,3 +2,4 @@ pub mod Texts
 pub mod Cuts
 pub mod Rules
 pub mod Counted
+pub mod Encoded

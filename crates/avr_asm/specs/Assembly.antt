@@ -12,7 +12,7 @@ use Rattle.module_image.specs.Spelling.{Image}
 use Rattle.avr_asm.specs.Text.{lines_in, pair_bytes}
 use Rattle.avr_asm.specs.Line.{Line, Module, Version, State, Handler, Sealed, Provides, Subscribes, Const, Code, Label, Item}
 use Rattle.avr_asm.specs.Rows.{Row, rows_of}
-use Rattle.avr_asm.specs.Refusals.{is_sealed, place_in, resolved, row_of}
+use Rattle.avr_asm.specs.Refusals.{is_sealed, led, place_in, resolved, row_of, some_goal}
 
 -- a unit with its target
 abbrev pub aimed : Unit → Option ℕ → Unit
@@ -22,7 +22,7 @@ aimed (LocalCall u) (Some target) = LocalCall target
 aimed u _ = u
 
 abbrev pub onto_units : List Row → Bool → Option Line → List Unit → List Unit
-onto_units all sealed (Some (Item unit goal)) others = guarded sealed (aimed unit (resolved all goal)) ∷ others
+onto_units all sealed (Some (Item unit goal)) others = guarded sealed (aimed unit (led all (some_goal goal))) ∷ others
 onto_units all sealed _ others = others
 
 -- The units of rows, of a text that is sealed or not.
@@ -64,9 +64,9 @@ abbrev pub handler_in : Option Line → List ℕ → List ℕ
 handler_in (Some (Handler goal)) other = goal
 handler_in _ other = other
 
-abbrev pub constants_in : Option Line → List ℕ → List ℕ
-constants_in (Some (Const pairs)) other = pair_bytes pairs
-constants_in _ other = other
+abbrev pub pairs_in : Option Line → List ℕ → List ℕ
+pairs_in (Some (Const pairs)) other = pairs
+pairs_in _ other = other
 
 abbrev pub onto_provided : List Row → Option Line → List Provided → List Provided
 onto_provided all (Some (Provides func proto goal)) others = record { func = func; proto = proto; word = word_of all goal } ∷ others
@@ -96,9 +96,13 @@ abbrev pub handler_of : List Row → List ℕ
 handler_of [] = []
 handler_of (r ∷ rs) = handler_in r.says (handler_of rs)
 
+-- the digits of the constants, and the constants
+abbrev pub pairs_of : List Row → List ℕ
+pairs_of [] = []
+pairs_of (r ∷ rs) = pairs_in r.says (pairs_of rs)
+
 abbrev pub constants_of : List Row → List ℕ
-constants_of [] = []
-constants_of (r ∷ rs) = constants_in r.says (constants_of rs)
+constants_of all = pair_bytes (pairs_of all)
 
 abbrev pub provided_of : List Row → List Row → List Provided
 provided_of all [] = []

@@ -3,6 +3,7 @@ pub mod Line
 pub mod Reading
 pub mod Rows
 pub mod Refusals
+pub mod Encoding
 pub mod Assembly
 pub mod Source
 pub mod Laws

@@ -51,6 +51,11 @@ goal_of (Some (Provides func proto goal)) = some_goal goal
 goal_of (Some (Item unit goal)) = some_goal goal
 goal_of _ = None
 
+-- the unit to which a line leads
+abbrev pub led : List Row → Option (List ℕ) → Option ℕ
+led all None = None
+led all (Some goal) = resolved all goal
+
 -- 1: it says nothing, or stands out of its place.
 abbrev pub is_misplaced : Row → List Row → Bool
 is_misplaced r rs = is_none (behind r.stage r.says)

@@ -1,6 +1,6 @@
 //! Why a text is not assembled: each condition by its least line.
 ghost use Rattle.std.specs.Prelude.{◌≡◌, ◌≤◌, ◌<◌, ◌+◌, ◌^◌, ℕ, None, Some, drop, length, map, IfSome};
-ghost use Rattle.avr_asm.specs.Refusals.{cannot_end, cannot_skip, can_be_skipped, count, first, goal_of, has_unit, is_beyond, is_far, is_given_before, is_labelled, is_mislabelled, is_misplaced, is_off, is_sealed, kinds_in, labelled, miscoded, refused, lacks_label, leads_astray, line_in, mislabelled, misled, misplaced, place_in, resolved, row_of, seals, some_goal, stuck, unit_of};
+ghost use Rattle.avr_asm.specs.Refusals.{cannot_end, cannot_skip, can_be_skipped, count, first, goal_of, has_unit, is_beyond, is_far, is_given_before, is_labelled, is_mislabelled, is_misplaced, is_off, is_sealed, kinds_in, labelled, miscoded, refused, lacks_label, leads_astray, led, line_in, mislabelled, misled, misplaced, place_in, resolved, row_of, seals, some_goal, stuck, unit_of};
 ghost use Rattle.avr_asm.specs.Rows.{unit_after};
 ghost use Rattle.avr_asm.specs.Seen.{row_option, row_seen, seen_option};
 
@@ -78,6 +78,13 @@ pub fn resolved(rows: &[Row<'_>], goal: &[u8]) -> Option<u64>
         Some(row) => Some(row.unit),
         None => None,
     }
+}
+
+/// The unit that a goal names, if there is a goal.
+pub fn led(rows: &[Row<'_>], goal: &[u8]) -> Option<u64>
+    ensures { result ≡ led (map row_seen rows.now) (some_goal goal.now) }
+{
+    if goal.is_empty() { None } else { resolved(rows, goal) }
 }
 
 /// What stands behind the dot of a line's target, or nothing.

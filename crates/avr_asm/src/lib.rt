@@ -2,7 +2,9 @@
 #![tactic(auto)]
 
 mod cut;
+mod encoding;
 mod error;
+mod fields;
 mod instruction;
 mod judge;
 mod operand;

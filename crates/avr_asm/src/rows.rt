@@ -15,7 +15,8 @@ use std::alloc::Global;
 use unit_code::Unit;
 
 fn instruction_words(instruction: &Instr) -> u64
-    ensures { result ≡ instruction_length instruction.now }
+    ensures words { result ≡ instruction_length instruction.now }
+    ensures few { (1 ≤ result) × (result ≤ 2) }
 {
     match instruction {
         Instr::Lds(_, _) | Instr::Sts(_, _) | Instr::Jmp(_) | Instr::Call(_) => 2,
@@ -26,7 +27,7 @@ fn instruction_words(instruction: &Instr) -> u64
 /// How many words of code a unit has.
 pub fn unit_words(unit: &Unit) -> u64
     ensures words { result ≡ unit_words unit.now }
-    ensures few { result ≤ 3 }
+    ensures few { (1 ≤ result) × (result ≤ 3) }
 {
     match unit {
         Unit::Plain(i) => instruction_words(i),

@@ -4,8 +4,11 @@ ghost use Rattle.unit_code.specs.Ends.{leaves};
 ghost use Rattle.unit_code.specs.Loads.{guarded};
 ghost use Rattle.unit_code.specs.Proper.{is_group_unit};
 ghost use Rattle.avr_asm.specs.Refusals.{can_be_skipped, cannot_end, cannot_skip, is_too_long, kinds_in, stuck, stuck_in};
+ghost use Rattle.avr_asm.specs.Assembly.{aimed, units_in};
+ghost use Rattle.avr_asm.specs.Encoding.{AreNear, IsNear};
 ghost use Rattle.avr_asm.specs.Seen.{row_seen};
 
+use crate::judge::led;
 use crate::row::{Row, Said};
 use mote_layout::BANK_WORDS;
 use std::alloc::{AllocError, Global};
@@ -115,4 +118,34 @@ pub fn stuck_in(units: &[Unit]) -> Option<u64>
     ensures { result ≡ stuck_in units.now }
 {
     first_stuck(is_too_long(units), units)
+}
+
+/// A unit with its target.
+fn aimed(unit: Unit, target: Option<u64>) -> Unit
+    requires { IsNear target }
+    ensures { result ≡ aimed unit target }
+{
+    let Some(target) = target else {
+        return unit;
+    };
+    match unit {
+        Unit::Branch { set, bit, .. } => Unit::Branch { set, bit, target: target as u16 },
+        Unit::Jump(_) => Unit::Jump(target as u16),
+        Unit::LocalCall(_) => Unit::LocalCall(target as u16),
+        _ => unit,
+    }
+}
+
+/// The units with their targets.
+pub fn units(alloc: Global, rows: &[Row<'_>], sealed: bool) -> Result<Vec<Unit>, AllocError>
+    requires { AreNear (map row_seen rows.now) (map row_seen rows.now) }
+    ensures { IfOk result (λ units. units.items ≡ units_in (map row_seen rows.now) sealed (map row_seen rows.now)) }
+{
+    let mut units = Vec::new(alloc);
+    for row in rows {
+        if let Some(Said::Item(unit, goal)) = row.says {
+            units.push(guarded(sealed, aimed(unit, led(rows, goal))))?;
+        }
+    }
+    Ok(units)
 }

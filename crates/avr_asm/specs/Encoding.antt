@@ -1,0 +1,63 @@
+-- What code has to keep to be encoded, and the words that encode it.
+use Rattle.std.specs.Prelude.{◌≡◌, ◌≢◌, ℕ, ◌+◌, ◌<◌, ◌^◌, Bool, true, false, List, [], ◌∷◌, ◌++◌, length, slice_index, Option, Some, None, ⊤}
+use Rattle.std.specs.List.{AllByRecursion}
+use Rattle.avr_isa.specs.declared.instruction.Instr.{Instr}
+use Rattle.avr_isa.specs.Operands.{IsBranchOffset, IsJumpOffset}
+use Rattle.unit_code.specs.declared.unit.Unit.{Unit}
+use Rattle.unit_code.specs.declared.unit.Unit.TheVariants.{Branch, Jump, LocalCall}
+use Rattle.unit_code.specs.Proper.{IsOfKind}
+use Rattle.unit_code.specs.Spelled.{AreInstructionsOf, BeginWith, offset_to}
+use Rattle.module_image.specs.declared.face.Provided.{Provided}
+use Rattle.avr_asm.specs.Rows.{Row, unit_words}
+use Rattle.avr_asm.specs.Refusals.{goal_of, led}
+
+-- The target is a unit that the instruction at the place reaches.
+abbrev pub Reaches : List ℕ → ℕ → Unit → Type 0
+Reaches firsts place (Branch set bit t) = (t < length firsts) × IsBranchOffset (offset_to place (slice_index firsts t))
+Reaches firsts place (Jump t) = (t < length firsts) × IsJumpOffset (offset_to place (slice_index firsts t))
+Reaches firsts place (LocalCall t) =
+    (t < length firsts) × IsJumpOffset (offset_to place (slice_index firsts t)) × (slice_index firsts t ≢ place + 1)
+Reaches firsts place _ = ⊤
+
+-- the unit leads to the one with that number
+abbrev pub HasTarget : ℕ → Unit → Type 0
+HasTarget target (Branch set bit t) = t ≡ target
+HasTarget target (Jump t) = t ≡ target
+HasTarget target (LocalCall t) = t ≡ target
+HasTarget target _ = ⊥
+
+-- the first word of each unit, from a place on
+abbrev pub places_from : ℕ → List Unit → List ℕ
+places_from place [] = []
+places_from place (u ∷ us) = place ∷ places_from (place + unit_words u) us
+
+-- Each unit is of its kind and reaches its target.
+abbrev pub AreEncodable : List ℕ → ℕ → List Unit → Type 0
+AreEncodable firsts place [] = ⊤
+AreEncodable firsts place (u ∷ us) = IsOfKind u × Reaches firsts place u × AreEncodable firsts (place + unit_words u) us
+
+-- The words grew by an instruction.
+pub record Grows (i : Instr) (old new : List ℕ) : Type 0 where
+  pub added : List ℕ
+  pub whole : new ≡ old ++ added
+  pub begins : BeginWith (i ∷ []) added []
+
+-- The words grew by a unit's instructions.
+pub record GrowsBy (firsts : List ℕ) (place : ℕ) (u : Unit) (old new : List ℕ) : Type 0 where
+  pub is : List Instr
+  pub added : List ℕ
+  pub whole : new ≡ old ++ added
+  pub instructions : AreInstructionsOf firsts place u is
+  pub begins : BeginWith is added []
+
+abbrev pub IsNear : Option ℕ → Type 0
+IsNear None = ⊤
+IsNear (Some t) = t < 2 ^ 16
+
+-- the targets of rows are numbers of 16 bits
+abbrev pub AreNear : List Row → List Row → Type 0
+AreNear all rs = AllByRecursion (λ r. IsNear (led all (goal_of r.says))) rs
+
+-- the words at which provided functions begin are words of 16 bits
+abbrev pub AreLow : List Provided → Type 0
+AreLow ps = AllByRecursion (λ p. p.word < 2 ^ 16) ps
