@@ -1,6 +1,7 @@
 -- The words of instructions, one after the other.
 use Rattle.std.specs.Prelude.{◌≡◌, ◌≢◌, ℕ, zero, suc, ◌+◌, ◌-◌, ◌<◌, ◌≤◌, Bool, true, false, List, [], ◌∷◌, ◌++◌, length, drop, slice_index, sum_by, Option, Some, None, Result, Ok, Err, IfOk}
-use Rattle.std.proofs.Common.{refl, sym, ◌∙◌, ap, subst, arith, append_assoc, append-nil}
+use Rattle.std.proofs.Common.{refl, sym, ◌∙◌, ap, subst, arith, append_assoc, append-nil, get_or}
+use Rattle.std.proofs.Math.Seq.{drop-cons}
 use Rattle.std.proofs.lemmas.List.{length-append}
 use Rattle.std.proofs.lemmas.List.Sums.{sum_by-cons}
 use Rattle.avr_isa.specs.Decoded.{decoded}
@@ -14,7 +15,8 @@ use Rattle.unit_code.specs.declared.unit.Unit.TheVariants as unit
 use Rattle.unit_code.specs.Items.{next_word}
 use Rattle.unit_code.specs.Lengths.{instruction_length}
 use Rattle.unit_code.specs.Spelled.{AreInstructionsOf, BeginWith, Spell, out_high, out_low, out_status}
-use Rattle.avr_asm.specs.Encoding.{Grows, GrowsBy, places_from}
+use Rattle.mote_layout.specs.Memory.{bank_words}
+use Rattle.avr_asm.specs.Encoding.{AreEncodable, Grows, GrowsBy, places_from}
 use Rattle.avr_asm.specs.Rows.{unit_words}
 
 grows : (i : Instr) (old added : List ℕ) → BeginWith (i ∷ []) added [] → Grows i old (old ++ added)
@@ -132,3 +134,21 @@ ahead_step firsts all place words new u us a g =
 
 pub ahead_end : (firsts : List ℕ) (all : List Unit) (place : ℕ) (words : List ℕ) → Ahead firsts all place words [] → Spell firsts 0 (places_from 0 all) all words
 ahead_end firsts all place words a = subst (λ (z : List ℕ). Spell firsts 0 (places_from 0 all) all z) (append-nil words) (a.whole [] refl)
+
+pub cut_at : (us : List Unit) (k : ℕ) (d : Unit) → k < length us → drop k us ≡ get_or us k d ∷ drop (k + 1) us
+cut_at us k d h = let e : suc k ≡ k + 1 = omega arith in drop-cons us k d h ∙ ap (λ (n : ℕ). get_or us k d ∷ drop n us) e
+
+-- one more unit is encoded
+pub another : (firsts : List ℕ) (all us : List Unit) (k place n : ℕ) (words new : List ℕ) (u : Unit) → drop k us ≡ u ∷ drop (k + 1) us → n ≡ unit_words u → GrowsBy firsts place u words new → Ahead firsts all place words (drop k us) → AreEncodable firsts place (drop k us) → place + sum_by unit_words (drop k us) ≤ bank_words
+    → Ahead firsts all (place + n) new (drop (k + 1) us) × AreEncodable firsts (place + n) (drop (k + 1) us) × (place + n + sum_by unit_words (drop (k + 1) us) ≤ bank_words)
+another firsts all us k place n words new u here size g a e low =
+    let ahead = ahead_step firsts all place words new u (drop (k + 1) us) (subst (λ (z : List Unit). Ahead firsts all place words z) here a) g in
+    let behind : AreEncodable firsts place (u ∷ drop (k + 1) us) = subst (λ (z : List Unit). AreEncodable firsts place z) here e in
+    let sum : sum_by unit_words (drop k us) ≡ unit_words u + sum_by unit_words (drop (k + 1) us) = ap (sum_by unit_words) here ∙ sum_by-cons unit_words u (drop (k + 1) us) in
+    (subst (λ (m : ℕ). Ahead firsts all (place + m) new (drop (k + 1) us)) (sym size) ahead, subst (λ (m : ℕ). AreEncodable firsts (place + m) (drop (k + 1) us)) (sym size) behind.2, omega (arith, sum, low, size))
+
+pub no_more : (us : List Unit) (k : ℕ) → length us ≤ k → drop k us ≡ []
+no_more [] zero h = refl
+no_more [] (suc k) h = refl
+no_more (u ∷ us) zero h = absurd (omega (arith, h))
+no_more (u ∷ us) (suc k) h = no_more us k (omega (arith, h))

@@ -148,7 +148,7 @@ pub fn first_words(alloc: Global, units: &[Unit]) -> Result<Vec<u16>, AllocError
 }
 
 /// The words of units, whose first words are given.
-#[tactic(auto, using(crate::proofs::Encoded::ahead_start, crate::proofs::Encoded::ahead_step, crate::proofs::Encoded::ahead_end))]
+#[tactic(auto, using(crate::proofs::Encoded::ahead_start))]
 pub fn words_of(alloc: Global, units: &[Unit], firsts: &[u16]) -> Result<Vec<u16>, AllocError>
     requires firsts { AllByRecursion (λ first. first < bank_words) firsts.now }
     requires few { sum_by unit_words units.now ≤ bank_words }

@@ -1,6 +1,7 @@
 //! An assembler: a module as text.
 #![tactic(auto)]
 
+mod assembling;
 mod cut;
 mod encoding;
 mod error;
@@ -16,5 +17,5 @@ mod units;
 mod words;
 mod writing;
 
+pub use assembling::assemble;
 pub use error::{AsmError, SourceError};
-pub use rows::read_rows;
