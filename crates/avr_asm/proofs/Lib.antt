@@ -3,3 +3,5 @@ pub mod Cuts
 pub mod Rules
 pub mod Counted
 pub mod Encoded
+pub mod Placed
+pub mod Counts

@@ -10,7 +10,7 @@ use Rattle.unit_code.specs.Spelled.{AreInstructionsOf, BeginWith, offset_to}
 use Rattle.module_image.specs.declared.face.Provided.{Provided}
 use Rattle.avr_asm.specs.Rows.{Row, unit_words}
 use Rattle.avr_asm.specs.Refusals.{goal_of, is_sealed, led, place_in, row_of}
-use Rattle.avr_asm.specs.Assembly.{handler_of, id_of, number_of, numbers_of, pairs_of, places_in, provided_of, subscribed_of, units_in, version_of}
+use Rattle.avr_asm.specs.Assembly.{constants_of, word_of, handler_of, id_of, number_of, numbers_of, pairs_of, places_in, provided_of, subscribed_of, units_in, version_of}
 use Rattle.avr_asm.specs.Text.{are_pairs}
 use Rattle.mote_layout.specs.Memory.{bank_words}
 use Rattle.mote_layout.specs.Limits.{provided_limit, subscribed_limit}
@@ -87,7 +87,9 @@ pub record IsClear (all : List Row) : Type 0 where
   pub version : IsVersion (version_of all)
   pub plain : version_of all ≡ first_version → (is_sealed all ≡ false) × (pairs_of all ≡ [])
   pub pairs : are_pairs (pairs_of all) ≡ true
-  pub pairs_few : length (pairs_of all) ≤ 2 * constants_limit
+  pub constants_few : length (constants_of all) ≤ constants_limit
+  pub provided_low : AreLow (provided_of all all)
+  pub handler_low : word_of all (handler_of all) < 2 ^ 16
   pub provided_few : length (provided_of all all) ≤ provided_limit
   pub subscribed_few : length (subscribed_of all) ≤ subscribed_limit
   pub provided_rise : AreProvided 0 (provided_of all all)
