@@ -5,3 +5,4 @@ pub mod Counted
 pub mod Encoded
 pub mod Placed
 pub mod Counts
+pub mod Sound
