@@ -6,3 +6,4 @@ pub mod Encoded
 pub mod Placed
 pub mod Counts
 pub mod Sound
+pub mod Clear

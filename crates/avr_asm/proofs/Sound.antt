@@ -199,7 +199,7 @@ above place [] j h = absurd (omega (arith, h))
 above place (u ∷ us) zero h = omega arith
 above place (u ∷ us) (suc j) h = let a = above (place + unit_words u) us j (omega (arith, h)) in omega (arith, a)
 
-rising : (place : ℕ) (us : List Unit) (i j : ℕ) → i < j → j < length us → slice_index (places_from place us) i < slice_index (places_from place us) j
+pub rising : (place : ℕ) (us : List Unit) (i j : ℕ) → i < j → j < length us → slice_index (places_from place us) i < slice_index (places_from place us) j
 rising place [] i j h k = absurd (omega (arith, k))
 rising place (u ∷ us) i zero h k = absurd (omega (arith, h))
 rising place (u ∷ us) zero (suc j) h k = let w = some_words u in let a = above (place + unit_words u) us j (omega (arith, k)) in omega (arith, a, w)
@@ -244,7 +244,7 @@ pub record Known (all : List Row) (firsts : List ℕ) : Type 0 where
   pub low : (t : ℕ) → t < length firsts → slice_index firsts t < bank_words
   pub rise : (i j : ℕ) → i < j → j < length firsts → slice_index firsts i < slice_index firsts j
 
-some_is : (goal : List ℕ) → is_goal goal ≡ true → some_goal goal ≡ Some goal
+pub some_is : (goal : List ℕ) → is_goal goal ≡ true → some_goal goal ≡ Some goal
 some_is [] h = absurd (true≢false (sym h))
 some_is (c ∷ cs) h = refl
 
