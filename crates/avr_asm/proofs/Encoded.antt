@@ -152,3 +152,6 @@ no_more [] zero h = refl
 no_more [] (suc k) h = refl
 no_more (u ∷ us) zero h = absurd (omega (arith, h))
 no_more (u ∷ us) (suc k) h = no_more us k (omega (arith, h))
+
+pub ahead_few : (firsts : List ℕ) (all us : List Unit) (place : ℕ) (words : List ℕ) → Ahead firsts all place words us → place + sum_by unit_words us ≤ bank_words → length words ≤ bank_words
+ahead_few firsts all us place words a h = let size = a.size in omega (arith, size, h)

@@ -7,3 +7,4 @@ pub mod Placed
 pub mod Counts
 pub mod Sound
 pub mod Clear
+pub mod Images

@@ -6,11 +6,12 @@ use Rattle.avr_isa.specs.Operands.{IsBranchOffset, IsJumpOffset}
 use Rattle.unit_code.specs.declared.unit.Unit.{Unit}
 use Rattle.unit_code.specs.declared.unit.Unit.TheVariants.{Branch, Jump, LocalCall}
 use Rattle.unit_code.specs.Proper.{IsOfKind}
-use Rattle.unit_code.specs.Spelled.{AreInstructionsOf, BeginWith, offset_to}
+use Rattle.unit_code.specs.Spelled.{AreInstructionsOf, BeginWith, Spell, offset_to}
 use Rattle.module_image.specs.declared.face.Provided.{Provided}
 use Rattle.avr_asm.specs.Rows.{Row, unit_words}
 use Rattle.avr_asm.specs.Refusals.{goal_of, is_sealed, led, place_in, row_of}
-use Rattle.avr_asm.specs.Assembly.{constants_of, word_of, handler_of, id_of, number_of, numbers_of, pairs_of, places_in, provided_of, subscribed_of, units_in, version_of}
+use Rattle.module_image.specs.Spelling.{Image}
+use Rattle.avr_asm.specs.Assembly.{contents_of, constants_of, word_of, handler_of, id_of, number_of, numbers_of, pairs_of, places_in, provided_of, subscribed_of, units_in, version_of}
 use Rattle.avr_asm.specs.Text.{are_pairs}
 use Rattle.mote_layout.specs.Memory.{bank_words}
 use Rattle.mote_layout.specs.Limits.{provided_limit, subscribed_limit}
@@ -94,3 +95,9 @@ pub record IsClear (all : List Row) : Type 0 where
   pub subscribed_few : length (subscribed_of all) ≤ subscribed_limit
   pub provided_rise : AreProvided 0 (provided_of all all)
   pub subscribed_own : AllByRecursion IsSubscribed (subscribed_of all)
+
+-- The bytes are the file of the rows, with the instructions of their units.
+pub record IsWritten (all : List Row) (bytes : List ℕ) : Type 0 where
+  pub code : List ℕ
+  pub spelled : Spell (places_from 0 (own_units all)) 0 (places_from 0 (own_units all)) (own_units all) code
+  pub image : Image bytes (contents_of all code)

@@ -148,12 +148,13 @@ pub fn first_words(alloc: Global, units: &[Unit]) -> Result<Vec<u16>, AllocError
 }
 
 /// The words of units, whose first words are given.
-#[tactic(auto, using(crate::proofs::Encoded::ahead_start))]
+#[tactic(auto, using(crate::proofs::Encoded::ahead_start, crate::proofs::Encoded::ahead_few))]
 pub fn words_of(alloc: Global, units: &[Unit], firsts: &[u16]) -> Result<Vec<u16>, AllocError>
     requires firsts { AllByRecursion (λ first. first < bank_words) firsts.now }
     requires few { sum_by unit_words units.now ≤ bank_words }
     requires units { AreEncodable firsts.now 0 units.now }
-    ensures { IfOk result (λ words. Spell firsts.now 0 (places_from 0 units.now) units.now words.items) }
+    ensures spelled { IfOk result (λ words. Spell firsts.now 0 (places_from 0 units.now) units.now words.items) }
+    ensures few { IfOk result (λ words. length words.items ≤ bank_words) }
 {
     let mut words = Vec::new(alloc);
     let mut place = 0;
