@@ -8,3 +8,4 @@ pub mod Counts
 pub mod Sound
 pub mod Clear
 pub mod Images
+pub mod Sources

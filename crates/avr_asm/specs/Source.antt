@@ -52,6 +52,10 @@ abbrev pub constant_lines : List ℕ → List Line
 constant_lines [] = []
 constant_lines (c ∷ cs) = Const (pairs_text (c ∷ cs)) ∷ []
 
+-- the lines up to the handler's, which begins at the unit with that number
+abbrev pub opening_lines : Contents → ℕ → List Line
+opening_lines c handler = Module c.face.id ∷ Version c.version ∷ State c.state_size ∷ Handler (decimal handler) ∷ []
+
 -- the lines behind the handler's
 abbrev pub lines_behind : Contents → List ℕ → List Unit → List Line
 lines_behind c numbers us =
@@ -61,8 +65,7 @@ lines_behind c numbers us =
 -- The lines of an image with these units, entered at the units with these numbers: the handler's is the first.
 abbrev pub lines_with : Contents → List ℕ → List Unit → List Line
 lines_with c [] us = []
-lines_with c (handler ∷ numbers) us =
-    Module c.face.id ∷ Version c.version ∷ State c.state_size ∷ Handler (decimal handler) ∷ lines_behind c numbers us
+lines_with c (handler ∷ numbers) us = opening_lines c handler ++ lines_behind c numbers us
 
 abbrev pub text_of : List Line → List ℕ
 text_of [] = []

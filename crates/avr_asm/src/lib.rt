@@ -12,6 +12,7 @@ mod operand;
 mod reading;
 mod row;
 mod rows;
+mod sourcing;
 mod stage;
 mod units;
 mod words;
@@ -19,3 +20,4 @@ mod writing;
 
 pub use assembling::assemble;
 pub use error::{AsmError, SourceError};
+pub use sourcing::source;

@@ -12,7 +12,7 @@ use mote_base::Line;
 use std::alloc::{AllocError, Global};
 use unit_code::Unit;
 
-fn put(out: &mut Vec<u8>, text: &[u8]) -> Result<(), AllocError>
+pub fn put(out: &mut Vec<u8>, text: &[u8]) -> Result<(), AllocError>
     ensures { IfOk result (λ _. out.new.items ≡ out.old.items ++ text.now) }
 {
     out.extend_from_slice(text)
@@ -26,7 +26,7 @@ fn put_number(out: &mut Vec<u8>, number: u16) -> Result<(), AllocError>
 }
 
 /// A text and a number behind it.
-fn put_numbered(out: &mut Vec<u8>, text: &[u8], number: u16) -> Result<(), AllocError>
+pub fn put_numbered(out: &mut Vec<u8>, text: &[u8], number: u16) -> Result<(), AllocError>
     ensures { IfOk result (λ _. out.new.items ≡ out.old.items ++ (text.now ++ decimal number)) }
 {
     put(out, text)?;
@@ -34,7 +34,7 @@ fn put_numbered(out: &mut Vec<u8>, text: &[u8], number: u16) -> Result<(), Alloc
 }
 
 /// A text and another behind it.
-fn put_two(out: &mut Vec<u8>, text: &[u8], other: &[u8]) -> Result<(), AllocError>
+pub fn put_two(out: &mut Vec<u8>, text: &[u8], other: &[u8]) -> Result<(), AllocError>
     ensures { IfOk result (λ _. out.new.items ≡ out.old.items ++ (text.now ++ other.now)) }
 {
     put(out, text)?;
@@ -58,7 +58,7 @@ fn put_function(out: &mut Vec<u8>, func: u8, proto: &[u8]) -> Result<(), AllocEr
 }
 
 /// A text, two numbers and a prototype.
-fn put_subscription(out: &mut Vec<u8>, text: &[u8], provider: u8, func: u8, proto: &[u8]) -> Result<(), AllocError>
+pub fn put_subscription(out: &mut Vec<u8>, text: &[u8], provider: u8, func: u8, proto: &[u8]) -> Result<(), AllocError>
     ensures { IfOk result (λ _. out.new.items ≡ out.old.items
         ++ (text.now ++ (decimal provider ++ (codes " " ++ (decimal func ++ (codes " " ++ proto.now)))))) }
 {
@@ -74,7 +74,7 @@ fn put_branch(out: &mut Vec<u8>, name: &[u8], bit: u8, goal: &[u8]) -> Result<()
 }
 
 /// The listing's text of a unit.
-fn put_unit(out: &mut Vec<u8>, unit: &Unit) -> Result<(), AllocError>
+pub fn put_unit(out: &mut Vec<u8>, unit: &Unit) -> Result<(), AllocError>
     requires { IsOfKind unit.now }
     ensures { IfOk result (λ _. out.new.items ≡ out.old.items ++ unit_text unit.now) }
 {
