@@ -9,3 +9,5 @@ pub mod Sound
 pub mod Clear
 pub mod Images
 pub mod Sources
+pub mod Least
+pub mod Passing

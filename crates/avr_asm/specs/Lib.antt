@@ -6,6 +6,7 @@ pub mod Refusals
 pub mod Encoding
 pub mod Assembly
 pub mod Source
+pub mod Errors
 pub mod Laws
 pub mod Seen
 pub mod Cut

@@ -1,4 +1,6 @@
 //! Why a text is not assembled, and why an image has no source.
+ghost use Rattle.std.specs.Prelude.{◌≡◌};
+ghost use Rattle.avr_asm.specs.Errors.{kind_number, line_number};
 
 use std::alloc::{AllocError, AllocFailed};
 use mote_base::NoMemory;
@@ -23,6 +25,32 @@ pub enum AsmError {
     /// Memory ran out.
     #[error("out of memory")]
     NoMemory,
+}
+
+impl AsmError {
+    /// The number of its kind, from 1, or 0 for want of memory.
+    pub fn number(&self) -> u8
+        ensures { result ≡ kind_number self.now }
+    {
+        match self {
+            AsmError::Line(_) => 1,
+            AsmError::Label(_) => 2,
+            AsmError::Target(_) => 3,
+            AsmError::Code(_) => 4,
+            AsmError::NoMemory => 0,
+        }
+    }
+
+    /// The number of the line that it names, or 0 for want of memory.
+    pub fn line(&self) -> u64
+        ensures { result ≡ line_number self.now }
+    {
+        match self {
+            AsmError::Line(line) | AsmError::Label(line) => *line,
+            AsmError::Target(line) | AsmError::Code(line) => *line,
+            AsmError::NoMemory => 0,
+        }
+    }
 }
 
 /// Why an image has no source.

@@ -8,6 +8,7 @@ mod error;
 mod fields;
 mod instruction;
 mod judge;
+mod laws;
 mod operand;
 mod reading;
 mod row;
@@ -20,4 +21,5 @@ mod writing;
 
 pub use assembling::assemble;
 pub use error::{AsmError, SourceError};
+pub use laws::{images_pass, refusals_are_least};
 pub use sourcing::source;
