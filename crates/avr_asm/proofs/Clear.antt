@@ -40,11 +40,11 @@ stays (Some n) kind next h = absurd (cc)
 pub passes : (end : ℕ) (all : List Row) → refused end all ≡ None → Passes end all
 unfolding refused
 passes end all h =
-  let a = stays (misplaced all) error.Line _ h in
-  let b = stays (too_early end (count all)) error.Line _ a.1 in
-  let c = stays (mislabelled all) error.Label _ b.1 in
-  let d = stays (misled all) error.Target _ c.1 in
-  let e = stays (miscoded all) error.Code None d.1 in
+    let a = stays (misplaced all) error.Line _ h in
+    let b = stays (too_early end (count all)) error.Line _ a.1 in
+    let c = stays (mislabelled all) error.Label _ b.1 in
+    let d = stays (misled all) error.Target _ c.1 in
+    let e = stays (miscoded all) error.Code None d.1 in
     record { placed = a.0; late = b.0; named = c.0; led = d.0; held = e.0 }
 
 passed_by : (b : Bool) (n : ℕ) (o : Option ℕ) → cond b (Some n) o ≡ None → (b ≡ false) × (o ≡ None)
@@ -118,7 +118,7 @@ own all firsts sealed k place (r ∷ rs) known n rules l q few =
     let q' : (j : ℕ) → j < length (onto_places place r.says (places_in rs)) → slice_index (onto_places place r.says (places_in rs)) j ≡ slice_index firsts (k + j) = subst (λ (p : ℕ). (j : ℕ) → j < length (onto_places p r.says (places_in rs)) → slice_index (onto_places p r.says (places_in rs)) j ≡ slice_index firsts (k + j)) n.1 q in
     let few' : k + length (onto_places place r.says (places_in rs)) ≤ length firsts = subst (λ (p : ℕ). k + length (onto_places p r.says (places_in rs)) ≤ length firsts) n.1 few in
     own_step all firsts sealed k place r.says (places_in rs) (units_in all sealed rs) known rules.0 (row_is all (length firsts) k place r l.0 n.0 n.1) q' few'
-      (own all firsts sealed (unit_after k r.says) (place_after place r.says) rs known n.2 rules.1 l.1 (later_own firsts k place r.says (places_in rs) q') (later_few k place r.says (places_in rs) (length firsts) few'))
+    (own all firsts sealed (unit_after k r.says) (place_after place r.says) rs known n.2 rules.1 l.1 (later_own firsts k place r.says (places_in rs) q') (later_few k place r.says (places_in rs) (length firsts) few'))
 
 -- no label is empty
 no_name : (name : List ℕ) → is_name name ≡ true → bytes_eq [] name ≡ false
@@ -172,68 +172,68 @@ none_add k = omega arith
 
 pub clear : (end : ℕ) (lines : List (List ℕ)) → refused end (rows_of lines) ≡ None → IsClear (rows_of lines)
 clear end lines h =
-  let all : List Row = rows_of lines in
-  let sealed : Bool = is_sealed all in
-  let us : List Unit = units_in all sealed all in
-  let firsts : List ℕ = places_from 0 us in
-  let p = passes end all h in
-  let rules : Ruled all = ruled 1 start 0 0 lines in
-  let nums : Numbered 0 0 all = numbered 1 start 0 0 lines in
-  let in_place = placed 1 start 0 0 lines p.placed in
-  let some : 0 < count all = not_late end (count all) p.late in
-  let total : count all ≡ length us = sym (counted all sealed all) in
-  let size : length firsts ≡ length us = places_length 0 us in
-  let counts : count all ≡ length firsts = total ∙ sym size in
-  let go : GoOn (is_too_long (kinds_in sealed all)) us = go_on (is_too_long (kinds_in sealed all)) 0 (kinds_in sealed all) us (are_alike all sealed all) (not_stuck all (stuck_in (kinds_in sealed all)) p.held) in
-  let long : long_length us ≤ bank_words = subst (λ (n : ℕ). n ≤ bank_words) (long_alike (kinds_in sealed all) us (are_alike all sealed all)) (ltb-false bank_words (long_length (kinds_in sealed all)) (go.short (omega (arith, some, total)))) in
-  let words : sum_by unit_words us ≤ bank_words = (let f = few_words us in omega (arith, f, long)) in
-  let low : AllByRecursion (λ n. n < bank_words) firsts = low_places bank_words 0 us (omega (arith, words)) in
-  let places : places_in all ≡ firsts = places_are all sealed 0 0 all nums in
-  let place_at : (k : ℕ) → k < length us → slice_index (places_in all) k ≡ place_in (row_of all k) =
-      λ k q. sym (subst (λ (n : ℕ). place_in (row_of all n) ≡ slice_index (places_in all) k) (none_add k) (place_is 0 0 all nums k (subst (λ (n : ℕ). k < n) (sym (ap length places ∙ size)) q))) in
-  let known : Known all firsts = record {
-    places = λ t q. sym (place_at t (subst (λ (n : ℕ). t < n) size q)) ∙ ap (λ (z : List ℕ). slice_index z t) places;
-    low = λ t q. low_at bank_words firsts t low q;
-    rise = λ i j a b. rising 0 us i j a (subst (λ (n : ℕ). j < n) size b);
-  } in
-  let leads : AllByRecursion (λ r. IsLedRow all (count all) r (goal_of r.says)) all = led_rows all (count all) all (every (λ r. is_mislabelled all (count all) r.line r.unit r.says) all p.named) (every (λ r. leads_astray all (count all) r (goal_of r.says)) all p.led) in
-  let leads' : AllByRecursion (λ r. IsLedRow all (length firsts) r (goal_of r.says)) all = subst (λ (n : ℕ). AllByRecursion (λ r. IsLedRow all n r (goal_of r.says)) all) counts leads in
-  let mine : Own firsts sealed 0 us = own all firsts sealed 0 0 all known nums rules leads'
-      (λ j q. ap (λ (z : List ℕ). slice_index z j) places ∙ ap (slice_index firsts) (sym (none_add j))) (subst (λ (z : List ℕ). 0 + length z ≤ length firsts) (sym places) (omega arith)) in
-  let units_few : length us ≤ bank_words = (let f = few_units us in omega (arith, f, words)) in
-  let none : number_of all [] < length us = subst (λ (o : Option Row). unwrap_or (unit_of o) 0 < length us) (sym (no_label all rules)) (omega (arith, some, total)) in
-  let leads_us : AllByRecursion (λ r. IsLedRow all (length us) r (goal_of r.says)) all = subst (λ (n : ℕ). AllByRecursion (λ r. IsLedRow all n r (goal_of r.says)) all) total leads in
-  let word : (goal : List ℕ) → word_of all goal < 2 ^ 16 = λ goal. (let w = low_place bank_words (number_of all goal) all (omega arith) (subst (λ (z : List ℕ). AllByRecursion (λ n. n < bank_words) z) (sym places) low) in omega (arith, w)) in
-  let face : AreFew start (provided_of all all) _ = few all start all word (omega arith) (omega arith) in_place rules in
-  let top = head start all in_place rules in
-  let digits = pairs_are all rules in
-  record {
-    near = near_rows all (length us) all units_few leads_us;
-    few = words;
-    low = low;
-    encodable = mine.encodable;
-    places = places;
-    proper = record {
-      some = omega (arith, some, total);
-      kinds = mine.kinds;
-      loads = mine.loads;
-      targets = subst (λ (n : ℕ). AllByRecursion (LeadsBelow n) us) size mine.targets;
-      skips = go.skips;
-      ends = go.ends;
-      fits = long;
-    };
-    handler = handler_low all (length us) all none rules leads_us;
-    provided = numbers_low all (length us) all rules leads_us;
-    words = place_at;
-    id = top.own_id refl some;
-    version = top.own_version (omega arith) some;
-    plain = top.early (omega arith);
-    pairs = digits.even;
-    constants_few = digits.few;
-    provided_low = low_words 0 (provided_of all all) face.rise;
-    handler_low = word (handler_of all);
-    provided_few = (let f = face.provided in omega (arith, f));
-    subscribed_few = (let f = face.subscribed in omega (arith, f));
-    provided_rise = face.rise;
-    subscribed_own = face.own;
-  }
+    let all : List Row = rows_of lines in
+    let sealed : Bool = is_sealed all in
+    let us : List Unit = units_in all sealed all in
+    let firsts : List ℕ = places_from 0 us in
+    let p = passes end all h in
+    let rules : Ruled all = ruled 1 start 0 0 lines in
+    let nums : Numbered 0 0 all = numbered 1 start 0 0 lines in
+    let in_place = placed 1 start 0 0 lines p.placed in
+    let some : 0 < count all = not_late end (count all) p.late in
+    let total : count all ≡ length us = sym (counted all sealed all) in
+    let size : length firsts ≡ length us = places_length 0 us in
+    let counts : count all ≡ length firsts = total ∙ sym size in
+    let go : GoOn (is_too_long (kinds_in sealed all)) us = go_on (is_too_long (kinds_in sealed all)) 0 (kinds_in sealed all) us (are_alike all sealed all) (not_stuck all (stuck_in (kinds_in sealed all)) p.held) in
+    let long : long_length us ≤ bank_words = subst (λ (n : ℕ). n ≤ bank_words) (long_alike (kinds_in sealed all) us (are_alike all sealed all)) (ltb-false bank_words (long_length (kinds_in sealed all)) (go.short (omega (arith, some, total)))) in
+    let words : sum_by unit_words us ≤ bank_words = (let f = few_words us in omega (arith, f, long)) in
+    let low : AllByRecursion (λ n. n < bank_words) firsts = low_places bank_words 0 us (omega (arith, words)) in
+    let places : places_in all ≡ firsts = places_are all sealed 0 0 all nums in
+    let place_at : (k : ℕ) → k < length us → slice_index (places_in all) k ≡ place_in (row_of all k) =
+    λ k q. sym (subst (λ (n : ℕ). place_in (row_of all n) ≡ slice_index (places_in all) k) (none_add k) (place_is 0 0 all nums k (subst (λ (n : ℕ). k < n) (sym (ap length places ∙ size)) q))) in
+    let known : Known all firsts = record {
+      places = λ t q. sym (place_at t (subst (λ (n : ℕ). t < n) size q)) ∙ ap (λ (z : List ℕ). slice_index z t) places;
+      low = λ t q. low_at bank_words firsts t low q;
+      rise = λ i j a b. rising 0 us i j a (subst (λ (n : ℕ). j < n) size b);
+    } in
+    let leads : AllByRecursion (λ r. IsLedRow all (count all) r (goal_of r.says)) all = led_rows all (count all) all (every (λ r. is_mislabelled all (count all) r.line r.unit r.says) all p.named) (every (λ r. leads_astray all (count all) r (goal_of r.says)) all p.led) in
+    let leads' : AllByRecursion (λ r. IsLedRow all (length firsts) r (goal_of r.says)) all = subst (λ (n : ℕ). AllByRecursion (λ r. IsLedRow all n r (goal_of r.says)) all) counts leads in
+    let mine : Own firsts sealed 0 us = own all firsts sealed 0 0 all known nums rules leads'
+    (λ j q. ap (λ (z : List ℕ). slice_index z j) places ∙ ap (slice_index firsts) (sym (none_add j))) (subst (λ (z : List ℕ). 0 + length z ≤ length firsts) (sym places) (omega arith)) in
+    let units_few : length us ≤ bank_words = (let f = few_units us in omega (arith, f, words)) in
+    let none : number_of all [] < length us = subst (λ (o : Option Row). unwrap_or (unit_of o) 0 < length us) (sym (no_label all rules)) (omega (arith, some, total)) in
+    let leads_us : AllByRecursion (λ r. IsLedRow all (length us) r (goal_of r.says)) all = subst (λ (n : ℕ). AllByRecursion (λ r. IsLedRow all n r (goal_of r.says)) all) total leads in
+    let word : (goal : List ℕ) → word_of all goal < 2 ^ 16 = λ goal. (let w = low_place bank_words (number_of all goal) all (omega arith) (subst (λ (z : List ℕ). AllByRecursion (λ n. n < bank_words) z) (sym places) low) in omega (arith, w)) in
+    let face : AreFew start (provided_of all all) _ = few all start all word (omega arith) (omega arith) in_place rules in
+    let top = head start all in_place rules in
+    let digits = pairs_are all rules in
+    record {
+      near = near_rows all (length us) all units_few leads_us;
+      few = words;
+      low = low;
+      encodable = mine.encodable;
+      places = places;
+      proper = record {
+        some = omega (arith, some, total);
+        kinds = mine.kinds;
+        loads = mine.loads;
+        targets = subst (λ (n : ℕ). AllByRecursion (LeadsBelow n) us) size mine.targets;
+        skips = go.skips;
+        ends = go.ends;
+        fits = long;
+      };
+      handler = handler_low all (length us) all none rules leads_us;
+      provided = numbers_low all (length us) all rules leads_us;
+      words = place_at;
+      id = top.own_id refl some;
+      version = top.own_version (omega arith) some;
+      plain = top.early (omega arith);
+      pairs = digits.even;
+      constants_few = digits.few;
+      provided_low = low_words 0 (provided_of all all) face.rise;
+      handler_low = word (handler_of all);
+      provided_few = (let f = face.provided in omega (arith, f));
+      subscribed_few = (let f = face.subscribed in omega (arith, f));
+      provided_rise = face.rise;
+      subscribed_own = face.own;
+    }

@@ -47,7 +47,7 @@ pub places_are : (all : List Row) (sealed : Bool) (k place : ℕ) (rs : List Row
 places_are all sealed k place [] h = refl
 places_are all sealed k place (r ∷ rs) h =
     ap (λ (p : ℕ). onto_places p r.says (places_in rs)) h.1
-  ∙ places_step all sealed k place r.says (places_in rs) (units_in all sealed rs) (places_are all sealed (unit_after k r.says) (place_after place r.says) rs h.2)
+    ∙ places_step all sealed k place r.says (places_in rs) (units_in all sealed rs) (places_are all sealed (unit_after k r.says) (place_after place r.says) rs h.2)
 
 counted_step : (all : List Row) (sealed : Bool) (o : Option Line) (n : ℕ) (us : List Unit) → length us ≡ n → length (onto_units all sealed o us) ≡ unit_after n o
 counted_step all sealed None n us h = h
@@ -61,8 +61,9 @@ counted all sealed (r ∷ rs) = counted_step all sealed r.says (count rs) (units
 -- The row of a unit has its place.
 row_skip : (r : Row) (rs : List Row) (k : ℕ) → has_unit r.says ≡ false → row_of (r ∷ rs) k ≡ row_of rs k
 row_skip r rs k h = elim (r.unit == k) as (λ b. cond (b && has_unit r.says) (Some r) (row_of rs k) ≡ row_of rs k) [
-    true ↦ ap (λ (z : Bool). cond z (Some r) (row_of rs k)) h
-  | false ↦ refl ]
+  | true ↦ ap (λ (z : Bool). cond z (Some r) (row_of rs k)) h
+  | false ↦ refl
+]
 
 -- the place of the unit with that number, counted from the first of these rows
 abbrev pub HasPlace : List Row → ℕ → ℕ → Type 0
@@ -77,7 +78,7 @@ place_step r rs k (Some (Item u goal)) s e ih (suc j) h =
     let other : (r.unit == k + suc j) ≡ false = ne_eqb r.unit (k + suc j) (λ same. omega (arith, same, e)) in
     let next : suc k + j ≡ k + suc j = omega arith in
     ap place_in (ap (λ (z : Bool). cond (z && has_unit r.says) (Some r) (row_of rs (k + suc j))) other)
-  ∙ ap (λ (n : ℕ). place_in (row_of rs n)) (sym next) ∙ ih j (omega (arith, h))
+    ∙ ap (λ (n : ℕ). place_in (row_of rs n)) (sym next) ∙ ih j (omega (arith, h))
 place_step r rs k None s e ih j h = ap place_in (row_skip r rs (k + j) (ap has_unit s)) ∙ ih j h
 place_step r rs k (Some _) s e ih j h = ap place_in (row_skip r rs (k + j) (ap has_unit s)) ∙ ih j h
 

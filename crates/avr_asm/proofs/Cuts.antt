@@ -30,8 +30,9 @@ back_none byte text h = back-none byte text (has_lacks byte text h)
 pub line_parted : (w t : List ℕ) → has 10 w ≡ false → lines_in (w ++ (10 ∷ t)) ≡ (w ++ (10 ∷ [])) ∷ lines_in t
 line_parted [] t h = refl
 line_parted (x ∷ xs) t h = elim (x == 10) as (λ e. cond e true (has 10 xs) ≡ false → cond e ((10 ∷ []) ∷ lines_in (xs ++ (10 ∷ t))) (onto_first x (lines_in (xs ++ (10 ∷ t)))) ≡ (x ∷ (xs ++ (10 ∷ []))) ∷ lines_in t) [
-    true ↦ λ same. absurd (true≢false same)
-  | false ↦ λ lacks. ap (onto_first x) (line_parted xs t lacks) ] h
+  | true ↦ λ same. absurd (true≢false same)
+  | false ↦ λ lacks. ap (onto_first x) (line_parted xs t lacks)
+] h
 
 taken : (w t : List ℕ) → take (length w + 1) (w ++ (10 ∷ t)) ≡ w ++ (10 ∷ [])
 taken w t = take-append-add w (10 ∷ t) 1

@@ -126,9 +126,9 @@ ahead_step firsts all place words new u us a g =
     record {
       size = ap length g.whole ∙ length-append words g.added ∙ ap (λ n. n + length g.added) a.size ∙ ap (λ n. place + n) size;
       whole = λ rest h.
-        let here : Spell firsts (place + sum_by instruction_length g.is) (places_from (place + unit_words u) us) us rest =
-            subst (λ n. Spell firsts (place + n) (places_from (place + unit_words u) us) us rest) (sym sums) h in
-        subst (λ (z : List ℕ). Spell firsts 0 (places_from 0 all) all z) (sym (ap (λ z. z ++ rest) g.whole ∙ append_assoc words g.added rest))
+          let here : Spell firsts (place + sum_by instruction_length g.is) (places_from (place + unit_words u) us) us rest =
+          subst (λ n. Spell firsts (place + n) (places_from (place + unit_words u) us) us rest) (sym sums) h in
+          subst (λ (z : List ℕ). Spell firsts 0 (places_from 0 all) all z) (sym (ap (λ z. z ++ rest) g.whole ∙ append_assoc words g.added rest))
           (a.whole (g.added ++ rest) (refl, g.is, rest, g.instructions, begin_further g.is g.added [] rest g.begins, here));
     }
 

@@ -33,7 +33,7 @@ spelled_so : (all : List Row) (code : List ℕ) → IsClear all → Spell (place
 spelled_so all code c s =
     let size : length (own_units all) ≡ length (places_in all) = sym (ap length c.places ∙ places_length 0 (own_units all)) in
     let at : (goal : List ℕ) → number_of all goal < length (places_in all) → slice_index (places_in all) (number_of all goal) ≡ word_of all goal =
-        λ goal low. c.words (number_of all goal) (subst (λ (n : ℕ). number_of all goal < n) (sym size) low) in
+    λ goal low. c.words (number_of all goal) (subst (λ (n : ℕ). number_of all goal < n) (sym size) low) in
     let handler : number_of all (handler_of all) < length (places_in all) = subst (λ (n : ℕ). number_of all (handler_of all) < n) size c.handler in
     record {
       spelled = subst (λ (z : List ℕ). Spell z 0 z (own_units all) code) (sym c.places) s;

@@ -25,8 +25,9 @@ use Rattle.avr_asm.proofs.Rules.{candidate_rules}
 some_spelled : (text : List ℕ) (o : Option Line) (l : Line) → spelled text o ≡ Some l → (o ≡ Some l) × (text ≡ ended l)
 some_spelled text None l h = absurd (cc)
 some_spelled text (Some m) l h = elim (bytes_eq (ended m) text) as (λ b. bytes_eq (ended m) text ≡ b → cond b (Some m) None ≡ Some l → (Some m ≡ Some l) × (text ≡ ended l)) [
-    true ↦ λ t e. let same : m ≡ l = cc in (e, sym ((bytes_eq-Decides (ended m) text).0 t) ∙ ap ended same)
-  | false ↦ λ t e. absurd (cc) ] refl h
+  | true ↦ λ t e. let same : m ≡ l = cc in (e, sym ((bytes_eq-Decides (ended m) text).0 t) ∙ ap ended same)
+  | false ↦ λ t e. absurd (cc)
+] refl h
 
 pub said_sound : (text : List ℕ) (l : Line) → said text ≡ Some l → Says text l
 unfolding said
@@ -48,8 +49,9 @@ rowed n s k place o ts = record { line = n; stage = s; unit = k; place = place; 
 pub ruled : (n : ℕ) (s : Stage) (k place : ℕ) (ts : List (List ℕ)) → Ruled (rows n s k place ts)
 ruled n s k place [] = tt
 ruled n s k place (t ∷ ts) = elim (is_blank t) as (λ b. Ruled (cond b (rows (suc n) s k place ts) (rowed n s k place (said t) ts))) [
-    true ↦ ruled (suc n) s k place ts
-  | false ↦ (said_rules t (said t) refl, ruled (suc n) (kept s (behind s (said t))) (unit_after k (said t)) (place_after place (said t)) ts) ]
+  | true ↦ ruled (suc n) s k place ts
+  | false ↦ (said_rules t (said t) refl, ruled (suc n) (kept s (behind s (said t))) (unit_after k (said t)) (place_after place (said t)) ts)
+]
 
 -- Units and places count on from row to row.
 abbrev pub Numbered : ℕ → ℕ → List Row → Type 0
@@ -59,8 +61,9 @@ Numbered k place (r ∷ rs) = (r.unit ≡ k) × (r.place ≡ place) × Numbered 
 pub numbered : (n : ℕ) (s : Stage) (k place : ℕ) (ts : List (List ℕ)) → Numbered k place (rows n s k place ts)
 numbered n s k place [] = tt
 numbered n s k place (t ∷ ts) = elim (is_blank t) as (λ b. Numbered k place (cond b (rows (suc n) s k place ts) (rowed n s k place (said t) ts))) [
-    true ↦ numbered (suc n) s k place ts
-  | false ↦ (refl, refl, numbered (suc n) (kept s (behind s (said t))) (unit_after k (said t)) (place_after place (said t)) ts) ]
+  | true ↦ numbered (suc n) s k place ts
+  | false ↦ (refl, refl, numbered (suc n) (kept s (behind s (said t))) (unit_after k (said t)) (place_after place (said t)) ts)
+]
 
 -- Each row is in its place, from a stage on.
 abbrev pub Placed : Stage → List Row → Type 0
@@ -79,15 +82,19 @@ placed_row : (n : ℕ) (s : Stage) (k place : ℕ) (o : Option Line) (ts : List 
 placed_row n s k place o ts ih h =
     let p = passed (is_none (behind s o)) n (first is_misplaced (rows (suc n) (kept s (behind s o)) (unit_after k o) (place_after place o) ts)) h in
     let next = some_next (behind s o) p.0 in
-    let same : kept s (behind s o) ≡ next.0 = ap (kept s) next.1 in
-    (next.0, next.1, subst (λ (z : Stage). Placed next.0 (rows (suc n) z (unit_after k o) (place_after place o) ts)) (sym same)
-      (ih next.0 (unit_after k o) (place_after place o) (subst (λ (z : Stage). first is_misplaced (rows (suc n) z (unit_after k o) (place_after place o) ts) ≡ None) same p.1)))
+    let same : kept s (behind s o) ≡ next.0 = ap (kept s) next.1 in (
+      next.0,
+      next.1,
+      subst (λ (z : Stage). Placed next.0 (rows (suc n) z (unit_after k o) (place_after place o) ts)) (sym same)
+          (ih next.0 (unit_after k o) (place_after place o) (subst (λ (z : Stage). first is_misplaced (rows (suc n) z (unit_after k o) (place_after place o) ts) ≡ None) same p.1)),
+    )
 
 pub placed : (n : ℕ) (s : Stage) (k place : ℕ) (ts : List (List ℕ)) → first is_misplaced (rows n s k place ts) ≡ None → Placed s (rows n s k place ts)
 placed n s k place [] h = tt
 placed n s k place (t ∷ ts) h = elim (is_blank t) as (λ b. first is_misplaced (cond b (rows (suc n) s k place ts) (rowed n s k place (said t) ts)) ≡ None → Placed s (cond b (rows (suc n) s k place ts) (rowed n s k place (said t) ts))) [
-    true ↦ placed (suc n) s k place ts
-  | false ↦ placed_row n s k place (said t) ts (λ next j at. placed (suc n) next j at ts) ] h
+  | true ↦ placed (suc n) s k place ts
+  | false ↦ placed_row n s k place (said t) ts (λ next j at. placed (suc n) next j at ts)
+] h
 
 allowed_is : (b : Bool) (s next : Stage) → allowed b s ≡ Some next → (b ≡ true) × (s ≡ next)
 allowed_is true s next h = (refl, (let e : s ≡ next = cc in e))

@@ -176,8 +176,9 @@ named_unit_kept name a b =
 
 two_versions : (n : ℕ) → (1 + n % 2 ≡ 1) ⊎ (1 + n % 2 ≡ 2)
 two_versions n = elim (cases_lt (n % 2) 1) as (λ z. (1 + n % 2 ≡ 1) ⊎ (1 + n % 2 ≡ 2)) [
-    inl low ↦ inl (omega arith)
-  | inr high ↦ inr (omega arith) ]
+  | inl low ↦ inl (omega arith)
+  | inr high ↦ inr (omega arith)
+]
 
 headed_kept : (name rest : List ℕ) → K (headed name rest)
 unfolding headed

@@ -208,13 +208,15 @@ rising place (u ∷ us) (suc i) (suc j) h k = rising (place + unit_words u) us i
 -- offsets
 branch_offset : (a b : ℕ) → a + 1 ≤ b + 64 → b ≤ a + 64 → IsBranchOffset (offset_to a b)
 branch_offset a b h k = elim (cases_lt a b) as (λ z. IsBranchOffset (offset_to a b)) [
-    inl p ↦ subst IsBranchOffset (sym (cond-true (nat_lt a b) _ _ (lt-ltb a b p))) (grind arith, grind arith)
-  | inr p ↦ subst IsBranchOffset (sym (cond-false (nat_lt a b) _ _ (le-ltb a b p))) (grind arith, grind arith) ]
+  | inl p ↦ subst IsBranchOffset (sym (cond-true (nat_lt a b) _ _ (lt-ltb a b p))) (grind arith, grind arith)
+  | inr p ↦ subst IsBranchOffset (sym (cond-false (nat_lt a b) _ _ (le-ltb a b p))) (grind arith, grind arith)
+]
 
 jump_offset : (a b : ℕ) → a < bank_words → b < bank_words → IsJumpOffset (offset_to a b)
 jump_offset a b h k = elim (cases_lt a b) as (λ z. IsJumpOffset (offset_to a b)) [
-    inl p ↦ subst IsJumpOffset (sym (cond-true (nat_lt a b) _ _ (lt-ltb a b p))) (grind arith, grind arith)
-  | inr p ↦ subst IsJumpOffset (sym (cond-false (nat_lt a b) _ _ (le-ltb a b p))) (grind arith, grind arith) ]
+  | inl p ↦ subst IsJumpOffset (sym (cond-true (nat_lt a b) _ _ (lt-ltb a b p))) (grind arith, grind arith)
+  | inr p ↦ subst IsJumpOffset (sym (cond-false (nat_lt a b) _ _ (le-ltb a b p))) (grind arith, grind arith)
+]
 
 -- What is known of a target.
 pub record IsLed (all : List Row) (total k place : ℕ) (says : Option Line) (goal : List ℕ) : Type 0 where
@@ -253,15 +255,18 @@ far_not a b h = let p = or_none (nat_lt (b + 64) (a + 1)) _ h in (ltb-false (b +
 
 after : (k t : ℕ) → k < t → t ≢ k + 1 → k + 1 < t
 after k t h n = elim (cases_lt (k + 1) t) as (λ z. k + 1 < t) [
-    inl p ↦ p
-  | inr p ↦ absurd (n (omega (arith, h, p))) ]
+  | inl p ↦ p
+  | inr p ↦ absurd (n (omega (arith, h, p)))
+]
 
 not_next : (all : List Row) (firsts : List ℕ) (k place t : ℕ) → Known all firsts → slice_index firsts k ≡ place → k < length firsts → t < length firsts → t ≢ k + 1 → slice_index firsts t ≢ place + 1
 not_next all firsts k place t known here k_low t_low other e = elim (cases_lt k t) as (λ z. ⊥) [
-    inl above ↦ (let a = known.rise k (k + 1) (omega arith) (omega (arith, above, t_low)) in let b = known.rise (k + 1) t (after k t above other) t_low in omega (arith, a, b, here, e))
+  | inl above ↦ (let a = known.rise k (k + 1) (omega arith) (omega (arith, above, t_low)) in let b = known.rise (k + 1) t (after k t above other) t_low in omega (arith, a, b, here, e))
   | inr below ↦ elim (cases_lt t k) as (λ z. ⊥) [
-      inl less ↦ (let a = known.rise t k less k_low in omega (arith, a, here, e))
-    | inr equal ↦ (let t_is : t ≡ k = omega (arith, below, equal) in let a : slice_index firsts t ≡ place = ap (slice_index firsts) t_is ∙ here in omega (arith, a, e)) ] ]
+    | inl less ↦ (let a = known.rise t k less k_low in omega (arith, a, here, e))
+    | inr equal ↦ (let t_is : t ≡ k = omega (arith, below, equal) in let a : slice_index firsts t ≡ place = ap (slice_index firsts) t_is ∙ here in omega (arith, a, e))
+  ]
+]
 
 free : (firsts : List ℕ) (place : ℕ) (b : Bool) (i : Instr) → Reaches firsts place (load_where b i) × LeadsBelow (length firsts) (load_where b i)
 free firsts place true i = (tt, tt)
@@ -273,18 +278,18 @@ unit_reaches all firsts sealed k place (Branch set bit t) goal known here low ha
     let l = is has.1 in let q = far_not place (place_in (row_of all l.target)) l.near in
     let at : place_in (row_of all l.target) ≡ slice_index firsts l.target = known.places l.target l.low in
     subst (λ (o : Option ℕ). Reaches firsts place (guarded sealed (aimed (Branch set bit t) o)) × LeadsBelow (length firsts) (guarded sealed (aimed (Branch set bit t) o)))
-      (sym (ap (led all) (some_is goal has.1) ∙ l.resolves)) ((l.low, branch_offset place (slice_index firsts l.target) (omega (arith, q.0, at)) (omega (arith, q.1, at))), l.low)
+    (sym (ap (led all) (some_is goal has.1) ∙ l.resolves)) ((l.low, branch_offset place (slice_index firsts l.target) (omega (arith, q.0, at)) (omega (arith, q.1, at))), l.low)
 unit_reaches all firsts sealed k place (Jump t) goal known here low has is =
     let l = is has.1 in
     let own : place < bank_words = subst (λ (n : ℕ). n < bank_words) here (known.low k low) in
     subst (λ (o : Option ℕ). Reaches firsts place (guarded sealed (aimed (Jump t) o)) × LeadsBelow (length firsts) (guarded sealed (aimed (Jump t) o)))
-      (sym (ap (led all) (some_is goal has.1) ∙ l.resolves)) ((l.low, jump_offset place (slice_index firsts l.target) own (known.low l.target l.low)), l.low)
+    (sym (ap (led all) (some_is goal has.1) ∙ l.resolves)) ((l.low, jump_offset place (slice_index firsts l.target) own (known.low l.target l.low)), l.low)
 unit_reaches all firsts sealed k place (LocalCall t) goal known here low has is =
     let l = is has.1 in
     let own : place < bank_words = subst (λ (n : ℕ). n < bank_words) here (known.low k low) in
     subst (λ (o : Option ℕ). Reaches firsts place (guarded sealed (aimed (LocalCall t) o)) × LeadsBelow (length firsts) (guarded sealed (aimed (LocalCall t) o)))
-      (sym (ap (led all) (some_is goal has.1) ∙ l.resolves))
-      ((l.low, jump_offset place (slice_index firsts l.target) own (known.low l.target l.low), not_next all firsts k place l.target known here low l.low (λ e. absurd (true≢false (sym (eq-eqb l.target (k + 1) e) ∙ l.near)))), l.low)
+    (sym (ap (led all) (some_is goal has.1) ∙ l.resolves))
+    ((l.low, jump_offset place (slice_index firsts l.target) own (known.low l.target l.low), not_next all firsts k place l.target known here low l.low (λ e. absurd (true≢false (sym (eq-eqb l.target (k + 1) e) ∙ l.near)))), l.low)
 unit_reaches all firsts sealed k place (Plain i) goal known here low has is = subst (λ (o : Option ℕ). Reaches firsts place (guarded sealed (aimed (Plain i) o)) × LeadsBelow (length firsts) (guarded sealed (aimed (Plain i) o))) (sym (ap (λ g. led all (some_goal g)) has)) (free firsts place (sealed && is_load i) i)
 unit_reaches all firsts sealed k place (Load i) goal known here low has is = subst (λ (o : Option ℕ). Reaches firsts place (guarded sealed (aimed (Load i) o)) × LeadsBelow (length firsts) (guarded sealed (aimed (Load i) o))) (sym (ap (λ g. led all (some_goal g)) has)) (free firsts place (sealed && is_load i) i)
 unit_reaches all firsts sealed k place u goal known here low has is = subst (λ (o : Option ℕ). Reaches firsts place (guarded sealed (aimed u o)) × LeadsBelow (length firsts) (guarded sealed (aimed u o))) (sym (ap (λ g. led all (some_goal g)) has)) (tt, tt)

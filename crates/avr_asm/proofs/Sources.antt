@@ -27,8 +27,8 @@ listed_text u old = append_assoc old (unit_text u) (codes "\n") ∙ ap (λ (z : 
 pub constants_text : (old : List ℕ) (c : ℕ) (cs : List ℕ) → ((old ++ codes "const ") ++ pairs_text (c ∷ cs)) ++ codes "\n" ≡ old ++ text_of (constant_lines (c ∷ cs))
 constants_text old c cs =
     ap (λ (z : List ℕ). z ++ codes "\n") (append_assoc old (codes "const ") (pairs_text (c ∷ cs)))
-  ∙ append_assoc old (codes "const " ++ pairs_text (c ∷ cs)) (codes "\n")
-  ∙ ap (λ (z : List ℕ). old ++ z) (sym (append-nil ((codes "const " ++ pairs_text (c ∷ cs)) ++ codes "\n")))
+    ∙ append_assoc old (codes "const " ++ pairs_text (c ∷ cs)) (codes "\n")
+    ∙ ap (λ (z : List ℕ). old ++ z) (sym (append-nil ((codes "const " ++ pairs_text (c ∷ cs)) ++ codes "\n")))
 
 pub text_join : (ls ms : List Line) → text_of (ls ++ ms) ≡ text_of ls ++ text_of ms
 text_join [] ms = refl
@@ -47,7 +47,7 @@ behind_text c numbers us old =
     let taken : List Line = subscribed_lines c.face.subscribed.items in
     let fixed : List Line = constant_lines c.constants in
     let front : List ℕ = (((old ++ text_of seal) ++ text_of given) ++ text_of taken) ++ text_of fixed in
-      append_assoc front (codes "code\n") (text_of (unit_lines us))
+    append_assoc front (codes "code\n") (text_of (unit_lines us))
     ∙ onto (((old ++ text_of seal) ++ text_of given) ++ text_of taken) fixed (Code ∷ unit_lines us)
     ∙ onto ((old ++ text_of seal) ++ text_of given) taken (fixed ++ (Code ∷ unit_lines us))
     ∙ onto (old ++ text_of seal) given (taken ++ (fixed ++ (Code ∷ unit_lines us)))
@@ -58,7 +58,7 @@ pub opening_text : (c : Contents) (handler : ℕ) (old : List ℕ) →
     ≡ old ++ text_of (opening_lines c handler)
 opening_text c handler old =
     let a : List ℕ = ended (Module c.face.id) in let b : List ℕ = ended (Version c.version) in let d : List ℕ = ended (State c.state_size) in let e : List ℕ = ended (Handler (decimal handler)) in
-      append_assoc ((old ++ a) ++ b) d e ∙ append_assoc (old ++ a) b (d ++ e) ∙ append_assoc old a (b ++ (d ++ e))
+    append_assoc ((old ++ a) ++ b) d e ∙ append_assoc (old ++ a) b (d ++ e) ∙ append_assoc old a (b ++ (d ++ e))
     ∙ ap (λ (z : List ℕ). old ++ (a ++ (b ++ (d ++ z)))) (sym (append-nil e))
 
 pub whole_text : (c : Contents) (handler : ℕ) (numbers : List ℕ) (us : List Unit) (old : List ℕ) → (old ++ text_of (opening_lines c handler)) ++ text_of (lines_behind c numbers us) ≡ old ++ text_of (lines_with c (handler ∷ numbers) us)
@@ -70,6 +70,6 @@ subscribed_step ss i d now new whole low is h =
     let e : suc i ≡ i + 1 = omega arith in
     let cut : drop i ss ≡ get_or ss i d ∷ drop (i + 1) ss = drop-cons ss i d low ∙ ap (λ (n : ℕ). get_or ss i d ∷ drop n ss) e in
     let line : List ℕ = ended (Subscribes (get_or ss i d).module (get_or ss i d).func (get_or ss i d).proto) in
-      ap (λ (z : List ℕ). z ++ text_of (subscribed_lines (drop (i + 1) ss))) is
+    ap (λ (z : List ℕ). z ++ text_of (subscribed_lines (drop (i + 1) ss))) is
     ∙ append_assoc now line (text_of (subscribed_lines (drop (i + 1) ss)))
     ∙ ap (λ (z : List Subscribed). now ++ text_of (subscribed_lines z)) (sym cut) ∙ h

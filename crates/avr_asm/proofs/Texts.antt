@@ -9,26 +9,30 @@ use Rattle.avr_asm.specs.Text.{is_digit, is_word, are_digits, are_word, most, va
 pub front-parted : (b : ℕ) (w t : List ℕ) → has b w ≡ false → front b (w ++ (b ∷ t)) ≡ w
 front-parted b [] t h = cond-true (b == b) [] (b ∷ front b t) (eq-eqb b b refl)
 front-parted b (x ∷ xs) t h = elim (x == b) as (λ e. cond e true (has b xs) ≡ false → cond e [] (x ∷ front b (xs ++ (b ∷ t))) ≡ x ∷ xs) [
-    true ↦ λ same. absurd (true≢false same)
-  | false ↦ λ lacks. ap (λ z. x ∷ z) (front-parted b xs t lacks) ] h
+  | true ↦ λ same. absurd (true≢false same)
+  | false ↦ λ lacks. ap (λ z. x ∷ z) (front-parted b xs t lacks)
+] h
 
 pub back-parted : (b : ℕ) (w t : List ℕ) → has b w ≡ false → back b (w ++ (b ∷ t)) ≡ t
 back-parted b [] t h = cond-true (b == b) t (back b t) (eq-eqb b b refl)
 back-parted b (x ∷ xs) t h = elim (x == b) as (λ e. cond e true (has b xs) ≡ false → cond e (xs ++ (b ∷ t)) (back b (xs ++ (b ∷ t))) ≡ t) [
-    true ↦ λ same. absurd (true≢false same)
-  | false ↦ λ lacks. back-parted b xs t lacks ] h
+  | true ↦ λ same. absurd (true≢false same)
+  | false ↦ λ lacks. back-parted b xs t lacks
+] h
 
 pub front-whole : (b : ℕ) (w : List ℕ) → has b w ≡ false → front b w ≡ w
 front-whole b [] h = refl
 front-whole b (x ∷ xs) h = elim (x == b) as (λ e. cond e true (has b xs) ≡ false → cond e [] (x ∷ front b xs) ≡ x ∷ xs) [
-    true ↦ λ same. absurd (true≢false same)
-  | false ↦ λ lacks. ap (λ z. x ∷ z) (front-whole b xs lacks) ] h
+  | true ↦ λ same. absurd (true≢false same)
+  | false ↦ λ lacks. ap (λ z. x ∷ z) (front-whole b xs lacks)
+] h
 
 pub back-none : (b : ℕ) (w : List ℕ) → has b w ≡ false → back b w ≡ []
 back-none b [] h = refl
 back-none b (x ∷ xs) h = elim (x == b) as (λ e. cond e true (has b xs) ≡ false → cond e xs (back b xs) ≡ []) [
-    true ↦ λ same. absurd (true≢false same)
-  | false ↦ λ lacks. back-none b xs lacks ] h
+  | true ↦ λ same. absurd (true≢false same)
+  | false ↦ λ lacks. back-none b xs lacks
+] h
 
 pub has-parted : (b : ℕ) (w t : List ℕ) → has b (w ++ (b ∷ t)) ≡ true
 has-parted b [] t = cond-true (b == b) _ _ (eq-eqb b b refl)
@@ -38,13 +42,14 @@ has-parted b (x ∷ xs) t = elim (x == b) as (λ e. cond e true (has b (xs ++ (b
 pub has-behind : (b : ℕ) (w t : List ℕ) → has b w ≡ false → has b (w ++ t) ≡ has b t
 has-behind b [] t h = refl
 has-behind b (x ∷ xs) t h = elim (x == b) as (λ e. cond e true (has b xs) ≡ false → cond e true (has b (xs ++ t)) ≡ has b t) [
-    true ↦ λ same. absurd (true≢false same)
-  | false ↦ λ lacks. has-behind b xs t lacks ] h
+  | true ↦ λ same. absurd (true≢false same)
+  | false ↦ λ lacks. has-behind b xs t lacks
+] h
 
 pub lacks-word : (b : ℕ) (w : List ℕ) → is_word b ≡ false → are_word w ≡ true → has b w ≡ false
 lacks-word b [] hb h = refl
 lacks-word b (x ∷ xs) hb h = let p = and_parts (is_word x) (are_word xs) h in
-  cond-false (x == b) true (has b xs) (ne_eqb x b (λ e. absurd (true≢false (sym p.0 ∙ ap is_word e ∙ hb)))) ∙ lacks-word b xs hb p.1
+    cond-false (x == b) true (has b xs) (ne_eqb x b (λ e. absurd (true≢false (sym p.0 ∙ ap is_word e ∙ hb)))) ∙ lacks-word b xs hb p.1
 
 -- the value without its bound
 abbrev whole_from : ℕ → List ℕ → ℕ

@@ -54,6 +54,6 @@ SourceIsCanonical = (text bytes : List ℕ) (c : Contents) → refusal_of text �
 -- The source of an original image whose code has units is a text, and its image is that image, byte for byte.
 pub record SourceIsAssembled : Type 0 where
   pub accepted : (bytes : List ℕ) (c : Contents) → Image bytes c → c.rewritten ≡ false → refusal c.code (marks_of c) c.sealed ≡ None
-    → refusal_of (source_of c) ≡ None
+      → refusal_of (source_of c) ≡ None
   pub same : (bytes other : List ℕ) (c : Contents) → Image bytes c → c.rewritten ≡ false → refusal c.code (marks_of c) c.sealed ≡ None
-    → IsImageOf (source_of c) other → other ≡ bytes
+      → IsImageOf (source_of c) other → other ≡ bytes

@@ -109,7 +109,7 @@ rows n s k place [] = []
 rows n s k place (t ∷ ts) =
     if is_blank t then rows (suc n) s k place ts
     else record { line = n; stage = s; unit = k; place = place; says = said t }
-        ∷ rows (suc n) (kept s (behind s (said t))) (unit_after k (said t)) (place_after place (said t)) ts
+    ∷ rows (suc n) (kept s (behind s (said t))) (unit_after k (said t)) (place_after place (said t)) ts
 
 -- The rows of a text's lines.
 abbrev pub rows_of : List (List ℕ) → List Row

@@ -11,7 +11,9 @@ ghost use Rattle.avr_asm.specs.Seen.{row_seen};
 
 use crate::encoding::{first_words, words_of};
 use crate::error::AsmError;
-use crate::fields::{constants_of, handler_of, id_of, provided_of, size_of, subscribed_of, version_of, word_of};
+use crate::fields::{
+    constants_of, handler_of, id_of, provided_of, size_of, subscribed_of, version_of, word_of,
+};
 use crate::judge::{is_sealed, refused};
 use crate::row::Row;
 use crate::rows::read_rows;

@@ -69,7 +69,13 @@ fn put_group_with_sreg(words: &mut Vec<u16>, firsts: &[u16], place: u16) -> Resu
 
 /// Adds a unit of one instruction.
 #[tactic(auto, using(crate::proofs::Encoded::alone))]
-fn put_alone(words: &mut Vec<u16>, instruction: &Instr, unit: &Unit, firsts: &[u16], place: u16) -> Result<(), AllocError>
+fn put_alone(
+    words: &mut Vec<u16>,
+    instruction: &Instr,
+    unit: &Unit,
+    firsts: &[u16],
+    place: u16,
+) -> Result<(), AllocError>
     requires encodable { IsEncodable instruction.now }
     requires own { AreInstructionsOf firsts.now place unit.now (instruction.now ∷ []) }
     ensures { IfOk result (λ _. GrowsBy firsts.now place unit.now words.old.items words.new.items) }
@@ -79,7 +85,13 @@ fn put_alone(words: &mut Vec<u16>, instruction: &Instr, unit: &Unit, firsts: &[u
 
 /// Adds a unit that leads to another.
 #[tactic(auto, unfolding(avr_isa::specs::Operands::IsEncodable))]
-fn put_aimed(words: &mut Vec<u16>, unit: &Unit, firsts: &[u16], place: u16, target: u16) -> Result<(), AllocError>
+fn put_aimed(
+    words: &mut Vec<u16>,
+    unit: &Unit,
+    firsts: &[u16],
+    place: u16,
+    target: u16,
+) -> Result<(), AllocError>
     requires place { place < bank_words }
     requires firsts { AllByRecursion (λ first. first < bank_words) firsts.now }
     requires reaches { Reaches firsts.now place unit.now }
@@ -89,15 +101,31 @@ fn put_aimed(words: &mut Vec<u16>, unit: &Unit, firsts: &[u16], place: u16, targ
 {
     let offset = offset_to(place, firsts[usize::from(target)]);
     match unit {
-        Unit::Branch { set: true, bit, .. } => put_alone(words, &Instr::Brbs(*bit, offset as i8), unit, firsts, place),
-        Unit::Branch { set: false, bit, .. } => put_alone(words, &Instr::Brbc(*bit, offset as i8), unit, firsts, place),
+        Unit::Branch { set: true, bit, .. } => put_alone(
+            words,
+            &Instr::Brbs(*bit, offset as i8),
+            unit,
+            firsts,
+            place,
+        ),
+        Unit::Branch {
+            set: false,
+            bit,
+            ..
+        } => put_alone(words, &Instr::Brbc(*bit, offset as i8), unit, firsts, place),
         Unit::LocalCall(_) => put_alone(words, &Instr::Rcall(offset), unit, firsts, place),
         _ => put_alone(words, &Instr::Rjmp(offset), unit, firsts, place),
     }
 }
 
 #[tactic(auto, unfolding(avr_isa::specs::Operands::IsEncodable))]
-fn put_call(words: &mut Vec<u16>, address: u16, unit: &Unit, firsts: &[u16], place: u16) -> Result<(), AllocError>
+fn put_call(
+    words: &mut Vec<u16>,
+    address: u16,
+    unit: &Unit,
+    firsts: &[u16],
+    place: u16,
+) -> Result<(), AllocError>
     requires { AreInstructionsOf firsts.now place unit.now (Instr.Call address ∷ []) }
     ensures { IfOk result (λ _. GrowsBy firsts.now place unit.now words.old.items words.new.items) }
 {

@@ -2,8 +2,8 @@
 ghost use Rattle.std.specs.Prelude.{◌≡◌};
 ghost use Rattle.avr_asm.specs.Errors.{kind_number, line_number};
 
-use std::alloc::{AllocError, AllocFailed};
 use mote_base::NoMemory;
+use std::alloc::{AllocError, AllocFailed};
 use thiserror::Error;
 use unit_code::CodeError;
 

@@ -121,8 +121,19 @@ pub fn subscribed_of(rows: &[Row<'_>]) -> ArrayVec<Subscribed, SUBSCRIBED>
 {
     let mut subscribed = ArrayVec::new();
     for row in rows {
-        if let Some(Said::Subscribes { provider, func, proto }) = row.says {
-            subscribed.push(Subscribed { module: provider, func, proto });
+        if let Some(
+            Said::Subscribes {
+                provider,
+                func,
+                proto,
+            },
+        ) = row.says
+        {
+            subscribed.push(Subscribed {
+                module: provider,
+                func,
+                proto,
+            });
         }
     }
     subscribed

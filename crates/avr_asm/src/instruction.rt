@@ -3,7 +3,9 @@ ghost use Rattle.std.specs.Prelude.{◌≡◌};
 ghost use Rattle.avr_asm.specs.Reading.{compared, constant, controlled, load, load_behind, loaded, named_instruction, single, store, store_behind, wide};
 
 use crate::cut::begins;
-use crate::operand::{address, behind_two, bit, byte, middle, pair, register, six_bits, upper, upper_pair};
+use crate::operand::{
+    address, behind_two, bit, byte, middle, pair, register, six_bits, upper, upper_pair,
+};
 use avr_isa::Instr;
 
 /// The instruction of a name and its operands. The names come in groups; each function takes the next ones, and passes the

@@ -4,9 +4,9 @@ ghost use Rattle.avr_asm.specs.Refusals.{cannot_end, cannot_skip, can_be_skipped
 ghost use Rattle.avr_asm.specs.Rows.{unit_after};
 ghost use Rattle.avr_asm.specs.Seen.{row_option, row_seen, seen_option};
 
+use crate::error::AsmError;
 use crate::row::{Row, Said};
 use crate::stage::behind;
-use crate::error::AsmError;
 use crate::units::stuck_in;
 use crate::words::{is_number, value};
 use unit_code::Unit;
@@ -84,7 +84,11 @@ pub fn resolved(rows: &[Row<'_>], goal: &[u8]) -> Option<u64>
 pub fn led(rows: &[Row<'_>], goal: &[u8]) -> Option<u64>
     ensures { result ≡ led (map row_seen rows.now) (some_goal goal.now) }
 {
-    if goal.is_empty() { None } else { resolved(rows, goal) }
+    if goal.is_empty() {
+        None
+    } else {
+        resolved(rows, goal)
+    }
 }
 
 /// What stands behind the dot of a line's target, or nothing.
@@ -118,7 +122,8 @@ fn is_mislabelled(rows: &[Row<'_>], total: u64, row: &Row<'_>) -> bool
     ensures { result ≡ is_mislabelled (map row_seen rows.now) total row.now.line row.now.unit (seen_option row.now.says) }
 {
     match &row.says {
-        Some(Said::Label(name)) => total <= row.unit || is_given_before(row.line, labelled(name, rows)),
+        Some(Said::Label(name)) => total <= row.unit
+            || is_given_before(row.line, labelled(name, rows)),
         _ => lacks_label(rows, goal_of(&row.says)),
     }
 }

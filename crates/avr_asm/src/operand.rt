@@ -72,7 +72,10 @@ fn four_digits(text: &[u8]) -> u32
 {
     match text {
         [a, b, c, d] => {
-            4096 * u32::from(hex_value(*a)) + 256 * u32::from(hex_value(*b)) + 16 * u32::from(hex_value(*c)) + u32::from(hex_value(*d))
+            4096 * u32::from(hex_value(*a))
+                + 256 * u32::from(hex_value(*b))
+                + 16 * u32::from(hex_value(*c))
+                + u32::from(hex_value(*d))
         }
         _ => 0,
     }

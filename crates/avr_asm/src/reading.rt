@@ -4,7 +4,7 @@ ghost use Rattle.std.specs.Str.{bytes_eq};
 ghost use Rattle.unit_code.specs.Kinds.{standing_of};
 ghost use Rattle.unit_code.specs.declared.unit.Unit.TheVariants.{Branch, Jump, LocalCall};
 ghost use Rattle.avr_asm.specs.Line.{Handler, Label, Rules, ended};
-ghost use Rattle.avr_asm.specs.Reading.{aiming, candidate, const_of, headed, named_unit, provides, said, standing_item, subscribes, when};
+ghost use Rattle.avr_asm.specs.Reading.{aiming, bit, candidate, const_of, headed, named_unit, provides, said, standing_item, subscribes, when};
 ghost use Rattle.avr_asm.specs.Seen.{seen, seen_option};
 ghost use Rattle.avr_asm.specs.Text.{front, is_goal, is_name, is_prototype};
 
@@ -35,7 +35,25 @@ fn standing_item<'a>(standing: Standing) -> Option<Said<'a>>
 fn aiming(unit: Unit, goal: &[u8]) -> Option<Said<'_>>
     ensures { seen_option result ≡ aiming unit goal.now }
 {
-    if is_goal(goal) { Some(Said::Item(unit, goal)) } else { None }
+    if is_goal(goal) {
+        Some(Said::Item(unit, goal))
+    } else {
+        None
+    }
+}
+
+fn branching<'a>(set: bool, a: &[u8], b: &'a [u8]) -> Option<Said<'a>>
+    ensures { seen_option result ≡ aiming (Branch set (bit a.now) 0) (drop 1 b.now) }
+{
+    let bit = bit(a);
+    aiming(
+        Unit::Branch {
+            set,
+            bit,
+            target: 0,
+        },
+        tail(b),
+    )
 }
 
 #[tactic(auto, unfolding(crate::specs::Reading::named_unit))]
@@ -52,10 +70,10 @@ fn named_unit<'a>(name: &[u8], a: &'a [u8], b: &'a [u8]) -> Option<Said<'a>>
         return Some(Said::Item(Unit::Reserve, &[]));
     }
     if name == b"brbs".as_slice() {
-        return aiming(Unit::Branch { set: true, bit: bit(a), target: 0 }, tail(b));
+        return branching(true, a, b);
     }
     if name == b"brbc".as_slice() {
-        return aiming(Unit::Branch { set: false, bit: bit(a), target: 0 }, tail(b));
+        return branching(false, a, b);
     }
     if name == b"rjmp".as_slice() {
         return aiming(Unit::Jump(0), tail(a));
@@ -64,7 +82,10 @@ fn named_unit<'a>(name: &[u8], a: &'a [u8], b: &'a [u8]) -> Option<Said<'a>>
         return aiming(Unit::LocalCall(0), tail(a));
     }
     if name == b"kcall".as_slice() {
-        return Some(Said::Item(Unit::KernelCall((value(a) % KERNEL_CALLS as u64) as u8), &[]));
+        return Some(Said::Item(
+            Unit::KernelCall((value(a) % KERNEL_CALLS as u64) as u8),
+            &[],
+        ));
     }
     if name == b"scall".as_slice() {
         return Some(Said::Item(Unit::SlotCall((value(a) % SLOTS as u64) as u8), &[]));
@@ -77,7 +98,9 @@ fn prototype(text: &[u8]) -> Option<[u8; 4]>
     ensures { MatchOption result (is_prototype text.now ≡ false) (λ four. (is_prototype text.now ≡ true) × (four ≡ text.now)) }
 {
     match text {
-        [a, b, c, d] if is_printable(*a) && (is_printable(*b) && (is_printable(*c) && is_printable(*d))) => Some([*a, *b, *c, *d]),
+        [a, b, c, d]
+            if is_printable(*a) && (is_printable(*b) && (is_printable(*c) && is_printable(*d))) =>
+            Some([*a, *b, *c, *d]),
         _ => None,
     }
 }
@@ -103,19 +126,31 @@ fn subscribes<'a>(provider: &[u8], func: &[u8], proto: &[u8]) -> Option<Said<'a>
     };
     let provider = module_id(provider);
     let func = (value(func) % 256) as u8;
-    Some(Said::Subscribes { provider, func, proto })
+    Some(Said::Subscribes {
+        provider,
+        func,
+        proto,
+    })
 }
 
 fn const_of(pairs: &[u8]) -> Option<Said<'_>>
     ensures { seen_option result ≡ const_of pairs.now }
 {
-    if are_pairs(pairs) && (1 <= pairs.len() && pairs.len() <= PAIRS_BYTES) { Some(Said::Const(pairs)) } else { None }
+    if are_pairs(pairs) && (1 <= pairs.len() && pairs.len() <= PAIRS_BYTES) {
+        Some(Said::Const(pairs))
+    } else {
+        None
+    }
 }
 
 fn handler(goal: &[u8]) -> Option<Said<'_>>
     ensures { seen_option result ≡ when (is_goal goal.now) (Handler goal.now) }
 {
-    if is_goal(goal) { Some(Said::Handler(goal)) } else { None }
+    if is_goal(goal) {
+        Some(Said::Handler(goal))
+    } else {
+        None
+    }
 }
 
 #[tactic(auto, unfolding(crate::specs::Reading::headed))]
@@ -139,7 +174,11 @@ fn headed<'a>(name: &[u8], rest: &'a [u8]) -> Option<Said<'a>>
     }
     if name == b"provides".as_slice() {
         let others = back(rest, b' ');
-        return provides(front(rest, b' '), front(others, b' '), tail(back(others, b' ')));
+        return provides(
+            front(rest, b' '),
+            front(others, b' '),
+            tail(back(others, b' ')),
+        );
     }
     if name == b"subscribes".as_slice() {
         let others = back(rest, b' ');
@@ -158,7 +197,11 @@ fn label(text: &[u8]) -> Option<Said<'_>>
     ensures { seen_option result ≡ when (is_name (front 58 text.now)) (Label (front 58 text.now)) }
 {
     let name = front(text, b':');
-    if is_name(name) { Some(Said::Label(name)) } else { None }
+    if is_name(name) {
+        Some(Said::Label(name))
+    } else {
+        None
+    }
 }
 
 #[tactic(auto, unfolding(crate::specs::Reading::candidate))]

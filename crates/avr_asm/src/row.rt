@@ -11,8 +11,16 @@ pub enum Said<'a> {
     State(u16),
     Handler(&'a [u8]),
     Sealed,
-    Provides { func: u8, proto: [u8; 4], goal: &'a [u8] },
-    Subscribes { provider: u8, func: u8, proto: [u8; 4] },
+    Provides {
+        func: u8,
+        proto: [u8; 4],
+        goal: &'a [u8],
+    },
+    Subscribes {
+        provider: u8,
+        func: u8,
+        proto: [u8; 4],
+    },
     /// Pairs of hexadecimal digits.
     Const(&'a [u8]),
     Code,

@@ -5,8 +5,8 @@ ghost use Rattle.avr_asm.specs.Rows.{place_after, rows_of, unit_after, unit_word
 ghost use Rattle.avr_asm.specs.Seen.{row_seen, seen_option};
 ghost use Rattle.avr_asm.specs.Text.{lines_in};
 
-use crate::error::AsmError;
 use crate::cut::{first_line, is_blank};
+use crate::error::AsmError;
 use crate::reading::said;
 use crate::row::{Row, Said};
 use crate::stage::{START, behind, kept};
@@ -79,7 +79,13 @@ pub fn read_rows(alloc: Global, text: &[u8]) -> Result<(Vec<Row<'_>>, u64), AsmE
         rest = others;
         if !is_blank(first) {
             let says = said(alloc, first)?;
-            found.push(Row { line, stage, unit, place, says })?;
+            found.push(Row {
+                line,
+                stage,
+                unit,
+                place,
+                says,
+            })?;
             stage = kept(stage, behind(stage, &says));
             unit = unit_after(unit, &says);
             let Some(next) = place_after(place, &says) else {

@@ -67,7 +67,13 @@ fn put_subscribed_line(out: &mut Vec<u8>, subscribed: &Subscribed) -> Result<(),
     ensures { IfOk result (λ _. out.new.items
         ≡ out.old.items ++ ended (Subscribes subscribed.now.module subscribed.now.func subscribed.now.proto)) }
 {
-    put_subscription(out, b"subscribes ", subscribed.module, subscribed.func, &subscribed.proto)?;
+    put_subscription(
+        out,
+        b"subscribes ",
+        subscribed.module,
+        subscribed.func,
+        &subscribed.proto,
+    )?;
     put(out, b"\n")
 }
 
@@ -112,12 +118,21 @@ fn put_constants(out: &mut Vec<u8>, constants: &[u8]) -> Result<(), AllocError>
 fn put_seal(out: &mut Vec<u8>, sealed: bool) -> Result<(), AllocError>
     ensures { IfOk result (λ _. out.new.items ≡ out.old.items ++ text_of (seal_lines sealed)) }
 {
-    if sealed { put(out, b"sealed\n") } else { Ok(()) }
+    if sealed {
+        put(out, b"sealed\n")
+    } else {
+        Ok(())
+    }
 }
 
 /// Adds the lines behind the handler's.
 #[tactic(auto, using(crate::proofs::Sources::behind_text))]
-fn put_behind(out: &mut Vec<u8>, image: &ImageView<'_>, numbers: &[u16], units: &[Unit]) -> Result<(), AllocError>
+fn put_behind(
+    out: &mut Vec<u8>,
+    image: &ImageView<'_>,
+    numbers: &[u16],
+    units: &[Unit],
+) -> Result<(), AllocError>
     requires kinds { AllByRecursion IsOfKind units.now }
     requires numbers { length image.now.face.provided.items ≤ length numbers.now }
     ensures { IfOk result (λ _. out.new.items ≡ out.old.items ++ text_of (lines_behind image.now numbers.now units.now)) }
@@ -144,7 +159,12 @@ fn put_opening(out: &mut Vec<u8>, image: &ImageView<'_>, handler: u16) -> Result
 
 /// Adds the lines of an image with these units, which is entered at the units with these numbers.
 #[tactic(auto, using(crate::proofs::Sources::whole_text))]
-fn put_lines(out: &mut Vec<u8>, image: &ImageView<'_>, marks: &[u16], units: &[Unit]) -> Result<(), AllocError>
+fn put_lines(
+    out: &mut Vec<u8>,
+    image: &ImageView<'_>,
+    marks: &[u16],
+    units: &[Unit],
+) -> Result<(), AllocError>
     requires kinds { AllByRecursion IsOfKind units.now }
     requires marks { length marks.now ≡ length (marks_of image.now) }
     ensures { IfOk result (λ _. out.new.items ≡ out.old.items ++ text_of (lines_with image.now marks.now units.now)) }

@@ -1,7 +1,8 @@
 //! Where in a text a line stands.
-ghost use Rattle.std.specs.Prelude.{◌≡◌, ◌&&◌, nat_lt, nat_le};
+ghost use Rattle.std.specs.Prelude.{◌≡◌, ◌==◌, ◌&&◌, nat_lt, nat_le};
+ghost use Rattle.module_image.specs.Contents.{second_version};
 ghost use Rattle.mote_layout.specs.Limits.{provided_limit, subscribed_limit};
-ghost use Rattle.avr_asm.specs.Rows.{allowed, behind, is_at, is_between, kept, rank, with_provided, with_subscribed};
+ghost use Rattle.avr_asm.specs.Rows.{allowed, at_step, behind, is_at, is_between, kept, rank, with_provided, with_subscribed, with_version};
 ghost use Rattle.avr_asm.specs.Seen.{seen_option};
 
 use crate::row::Said;
@@ -86,33 +87,60 @@ fn allowed(holds: bool, stage: Stage) -> Option<Stage>
     if holds { Some(stage) } else { None }
 }
 
+/// On to a step, if the line is in its place.
+fn onward(holds: bool, step: Step, stage: Stage) -> Option<Stage>
+    ensures { result ≡ allowed holds (at_step step stage) }
+{
+    if holds {
+        Some(Stage { step, ..stage })
+    } else {
+        None
+    }
+}
+
+fn versioned(stage: Stage, version: u8) -> Option<Stage>
+    ensures { result ≡ allowed (is_at Step.Named stage.step) (with_version version stage) }
+{
+    let step = Step::Versioned;
+    allowed(
+        is_at(Step::Named, stage.step),
+        Stage {
+            step,
+            version,
+            ..stage
+        },
+    )
+}
+
+fn is_second(stage: Stage) -> bool
+    ensures { result ≡ (stage.version == second_version) }
+{
+    stage.version == SECOND_VERSION
+}
+
 /// What comes behind the line where it is in its place.
 pub fn behind(stage: Stage, says: &Option<Said<'_>>) -> Option<Stage>
     ensures { result ≡ behind stage (seen_option says.now) }
 {
-    let step = stage.step;
+    let at = stage.step;
+    let late = is_between(Step::Subscribing, at) && is_second(stage);
     match says {
         None => None,
-        Some(Said::Module(_)) => allowed(is_at(Step::Opening, step), Stage { step: Step::Named, ..stage }),
-        Some(Said::Version(version)) => {
-            let version = *version;
-            allowed(is_at(Step::Named, step), Stage { step: Step::Versioned, version, ..stage })
-        }
-        Some(Said::State(_)) => allowed(is_at(Step::Versioned, step), Stage { step: Step::Sized, ..stage }),
-        Some(Said::Handler(_)) => allowed(is_at(Step::Sized, step), Stage { step: Step::Handled, ..stage }),
-        Some(Said::Sealed) => {
-            let holds = is_at(Step::Handled, step) && stage.version == SECOND_VERSION;
-            allowed(holds, Stage { step: Step::Closed, ..stage })
-        }
+        Some(Said::Module(_)) => onward(is_at(Step::Opening, at), Step::Named, stage),
+        Some(Said::Version(version)) => versioned(stage, *version),
+        Some(Said::State(_)) => onward(is_at(Step::Versioned, at), Step::Sized, stage),
+        Some(Said::Handler(_)) => onward(is_at(Step::Sized, at), Step::Handled, stage),
+        Some(Said::Sealed) => onward(
+            is_at(Step::Handled, at) && is_second(stage),
+            Step::Closed,
+            stage,
+        ),
         Some(Said::Provides { func, .. }) => provides(stage, *func),
         Some(Said::Subscribes { .. }) => subscribes(stage),
-        Some(Said::Const(_)) => {
-            let holds = is_between(Step::Subscribing, step) && stage.version == SECOND_VERSION;
-            allowed(holds, Stage { step: Step::Constants, ..stage })
-        }
-        Some(Said::Code) => allowed(is_between(Step::Constants, step), Stage { step: Step::Body, ..stage }),
-        Some(Said::Label(_)) => allowed(is_at(Step::Body, step), stage),
-        Some(Said::Item(_, _)) => allowed(is_at(Step::Body, step), stage),
+        Some(Said::Const(_)) => onward(late, Step::Constants, stage),
+        Some(Said::Code) => onward(is_between(Step::Constants, at), Step::Body, stage),
+        Some(Said::Label(_)) => allowed(is_at(Step::Body, at), stage),
+        Some(Said::Item(_, _)) => allowed(is_at(Step::Body, at), stage),
     }
 }
 
@@ -120,7 +148,9 @@ fn provides(stage: Stage, func: u8) -> Option<Stage>
     ensures { result ≡ allowed (is_between Step.Providing stage.step
         && (nat_lt stage.provided provided_limit && nat_le stage.least func)) (with_provided func stage) }
 {
-    if is_between(Step::Providing, stage.step) && (stage.provided < PROVIDED_LIMIT && stage.least <= u16::from(func)) {
+    if is_between(Step::Providing, stage.step)
+        && (stage.provided < PROVIDED_LIMIT && stage.least <= u16::from(func))
+    {
         Some(Stage {
             step: Step::Providing,
             provided: stage.provided + 1,

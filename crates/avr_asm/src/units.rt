@@ -129,7 +129,11 @@ fn aimed(unit: Unit, target: Option<u64>) -> Unit
         return unit;
     };
     match unit {
-        Unit::Branch { set, bit, .. } => Unit::Branch { set, bit, target: target as u16 },
+        Unit::Branch { set, bit, .. } => Unit::Branch {
+            set,
+            bit,
+            target: target as u16,
+        },
         Unit::Jump(_) => Unit::Jump(target as u16),
         Unit::LocalCall(_) => Unit::LocalCall(target as u16),
         _ => unit,

@@ -117,7 +117,11 @@ pub fn value(text: &[u8]) -> u64
 pub fn hex_value(c: u8) -> u8
     ensures { result ≡ hex_value c }
 {
-    if 97 <= c { c - 87 } else { c.saturating_sub(48) }
+    if 97 <= c {
+        c - 87
+    } else {
+        c.saturating_sub(48)
+    }
 }
 
 /// Whether the text is pairs of hexadecimal digits.

@@ -58,7 +58,13 @@ fn put_function(out: &mut Vec<u8>, func: u8, proto: &[u8]) -> Result<(), AllocEr
 }
 
 /// A text, two numbers and a prototype.
-pub fn put_subscription(out: &mut Vec<u8>, text: &[u8], provider: u8, func: u8, proto: &[u8]) -> Result<(), AllocError>
+pub fn put_subscription(
+    out: &mut Vec<u8>,
+    text: &[u8],
+    provider: u8,
+    func: u8,
+    proto: &[u8],
+) -> Result<(), AllocError>
     ensures { IfOk result (λ _. out.new.items ≡ out.old.items
         ++ (text.now ++ (decimal provider ++ (codes " " ++ (decimal func ++ (codes " " ++ proto.now)))))) }
 {
@@ -89,7 +95,11 @@ fn put_item(out: &mut Vec<u8>, unit: &Unit, goal: &[u8]) -> Result<(), AllocErro
 {
     match unit {
         Unit::Branch { set: true, bit, .. } => put_branch(out, b"brbs ", *bit, goal),
-        Unit::Branch { set: false, bit, .. } => put_branch(out, b"brbc ", *bit, goal),
+        Unit::Branch {
+            set: false,
+            bit,
+            ..
+        } => put_branch(out, b"brbc ", *bit, goal),
         Unit::Jump(_) => put_two(out, b"rjmp .", goal),
         Unit::LocalCall(_) => put_two(out, b"rcall .", goal),
         _ => put_unit(out, unit),
@@ -108,7 +118,11 @@ fn put_text(out: &mut Vec<u8>, says: &Said<'_>) -> Result<(), AllocError>
         Said::Handler(goal) => put_two(out, b"handler .", goal),
         Said::Sealed => put(out, b"sealed"),
         Said::Provides { func, proto, goal } => put_provides(out, *func, proto, goal),
-        Said::Subscribes { provider, func, proto } => put_subscription(out, b"subscribes ", *provider, *func, proto),
+        Said::Subscribes {
+            provider,
+            func,
+            proto,
+        } => put_subscription(out, b"subscribes ", *provider, *func, proto),
         Said::Const(pairs) => put_two(out, b"const ", pairs),
         Said::Code => put(out, b"code"),
         Said::Label(name) => put_two(out, name, b":"),

@@ -47,22 +47,26 @@ fn a_text_is_assembled(rt: HostRuntime) -> Result<(), Fail> {
 
 #[test]
 fn labels_are_units(rt: HostRuntime) -> Result<(), Fail> {
-    let text = b"# counts down\nmodule 1\n\nversion 1\nstate 0\nhandler .start\ncode\nrjmp .start\nstart:\nldi r16,10\nagain:\ndec r16\nbrbc 1,.again\nret\n";
+    let text =
+        b"# counts down\nmodule 1\n\nversion 1\nstate 0\nhandler .start\ncode\nrjmp .start\nstart:\nldi r16,10\nagain:\ndec r16\nbrbc 1,.again\nret\n";
     let image = assemble(rt.alloc(), text)?;
     let words = b"\x00\xC0\x0A\xE0\x0A\x95\xF1\xF7\x08\x95";
     assert_eq!(rt; &image[15..], words.as_slice());
     assert_eq!(rt; image[9], 1);
     let again = source(rt.alloc(), &parse(&image)?)?;
-    let expected = b"module 1\nversion 1\nstate 0\nhandler .1\ncode\nrjmp .1\nldi r16,10\ndec r16\nbrbc 1,.2\nret\n";
+    let expected =
+        b"module 1\nversion 1\nstate 0\nhandler .1\ncode\nrjmp .1\nldi r16,10\ndec r16\nbrbc 1,.2\nret\n";
     assert_eq!(rt; again.as_slice(), expected.as_slice());
     Ok(())
 }
 
 #[test]
 fn every_line_of_the_head(rt: HostRuntime) -> Result<(), Fail> {
-    let text = b"module 254\nversion 2\nstate 65535\nhandler .1\nsealed\nprovides 0 a:#, .0\nprovides 255 !~!~ .1\nsubscribes 1 255 vvv0\nconst 00ff4a\ncode\nlds r0,0x01ff\nret\n";
+    let text =
+        b"module 254\nversion 2\nstate 65535\nhandler .1\nsealed\nprovides 0 a:#, .0\nprovides 255 !~!~ .1\nsubscribes 1 255 vvv0\nconst 00ff4a\ncode\nlds r0,0x01ff\nret\n";
     let image = assemble(rt.alloc(), text)?;
-    let expected = b"SOSM\x02\xFE\x02\xFF\xFF\x02\x00\x02\x01\x03\x00\x03\x00\x00a:#,\x00\x00\xFF!~!~\x02\x00\x01\xFFvvv0\x00\x90\xFF\x01\x08\x95\x00\xFFJ";
+    let expected =
+        b"SOSM\x02\xFE\x02\xFF\xFF\x02\x00\x02\x01\x03\x00\x03\x00\x00a:#,\x00\x00\xFF!~!~\x02\x00\x01\xFFvvv0\x00\x90\xFF\x01\x08\x95\x00\xFFJ";
     assert_eq!(rt; image.as_slice(), expected.as_slice());
     let again = source(rt.alloc(), &parse(&image)?)?;
     assert_eq!(rt; again.as_slice(), text.as_slice());
@@ -72,10 +76,18 @@ fn every_line_of_the_head(rt: HostRuntime) -> Result<(), Fail> {
 #[test]
 fn every_instruction(rt: HostRuntime) -> Result<(), Fail> {
     let mut text = FIRST.to_vec(rt.alloc())?;
-    text.extend_from_slice(b"nop\nmovw r30,r0\nmuls r16,r31\nmulsu r16,r23\nfmul r16,r23\nfmuls r16,r23\nfmulsu r16,r23\ncpc r0,r31\nsbc r0,r31\nadd r0,r31\ncpse r0,r31\ncp r0,r31\nsub r0,r31\nadc r0,r31\nand r0,r31\neor r0,r31\nor r0,r31\nmov r0,r31\n")?;
-    text.extend_from_slice(b"cpi r16,255\nsbci r16,255\nsubi r16,255\nori r16,255\nandi r16,255\nldd r31,z+63\nldd r31,y+0\nstd z+0,r31\nstd y+63,r31\nlds r31,0xffff\nld r0,z+\nld r0,-z\nld r0,y+\nld r0,-y\nld r0,x\nld r0,x+\nld r0,-x\nsts 0x0100,r0\n")?;
-    text.extend_from_slice(b"st z+,r0\nst -z,r0\nst y+,r0\nst -y,r0\nst x,r0\nst x+,r0\nst -x,r0\ncom r1\nneg r1\nswap r1\ninc r1\nasr r1\nlsr r1\nror r1\ndec r1\nbset 7\nbclr 0\nadiw r24,63\nsbiw r30,0\nmul r0,r31\nin r0,63\nout 63,r0\nldi r31,0\nbld r0,7\nbst r0,7\nsbrc r0,7\nsbrs r0,7\n")?;
-    text.extend_from_slice(b"push r31\npop r31\nsetsps\nsetsp\nreserve\nbrbs 7,.67\nbrbc 0,.75\nrcall .0\nkcall 11\nscall 15\nicall\nret\nrjmp .0\n")?;
+    text.extend_from_slice(
+        b"nop\nmovw r30,r0\nmuls r16,r31\nmulsu r16,r23\nfmul r16,r23\nfmuls r16,r23\nfmulsu r16,r23\ncpc r0,r31\nsbc r0,r31\nadd r0,r31\ncpse r0,r31\ncp r0,r31\nsub r0,r31\nadc r0,r31\nand r0,r31\neor r0,r31\nor r0,r31\nmov r0,r31\n",
+    )?;
+    text.extend_from_slice(
+        b"cpi r16,255\nsbci r16,255\nsubi r16,255\nori r16,255\nandi r16,255\nldd r31,z+63\nldd r31,y+0\nstd z+0,r31\nstd y+63,r31\nlds r31,0xffff\nld r0,z+\nld r0,-z\nld r0,y+\nld r0,-y\nld r0,x\nld r0,x+\nld r0,-x\nsts 0x0100,r0\n",
+    )?;
+    text.extend_from_slice(
+        b"st z+,r0\nst -z,r0\nst y+,r0\nst -y,r0\nst x,r0\nst x+,r0\nst -x,r0\ncom r1\nneg r1\nswap r1\ninc r1\nasr r1\nlsr r1\nror r1\ndec r1\nbset 7\nbclr 0\nadiw r24,63\nsbiw r30,0\nmul r0,r31\nin r0,63\nout 63,r0\nldi r31,0\nbld r0,7\nbst r0,7\nsbrc r0,7\nsbrs r0,7\n",
+    )?;
+    text.extend_from_slice(
+        b"push r31\npop r31\nsetsps\nsetsp\nreserve\nbrbs 7,.67\nbrbc 0,.75\nrcall .0\nkcall 11\nscall 15\nicall\nret\nrjmp .0\n",
+    )?;
     let again = canonical(rt.alloc(), &text)?;
     assert_eq!(rt; again.as_slice(), text.as_slice());
     Ok(())
@@ -150,9 +162,19 @@ fn add_nops(text: &mut Vec<u8>, count: u32) -> Result<(), Fail> {
 fn branches_reach_so_far(rt: HostRuntime) -> Result<(), Fail> {
     for (first, count, last, expected) in [
         (b"brbs 0,.64\n".as_slice(), 63, b"ret\n".as_slice(), None),
-        (b"brbs 0,.65\n".as_slice(), 64, b"ret\n".as_slice(), Some((3, 6))),
+        (
+            b"brbs 0,.65\n".as_slice(),
+            64,
+            b"ret\n".as_slice(),
+            Some((3, 6)),
+        ),
         (b"".as_slice(), 63, b"brbs 0,.0\nret\n".as_slice(), None),
-        (b"".as_slice(), 64, b"brbs 0,.0\nret\n".as_slice(), Some((3, 70))),
+        (
+            b"".as_slice(),
+            64,
+            b"brbs 0,.0\nret\n".as_slice(),
+            Some((3, 70)),
+        ),
     ] {
         let mut text = FIRST.to_vec(rt.alloc())?;
         text.extend_from_slice(first)?;
@@ -181,7 +203,10 @@ fn the_head_has_its_order(rt: HostRuntime) -> Result<(), Fail> {
         (b"const 00\nsealed\ncode\nret\n", Some((1, 6))),
         (b"const 0\ncode\nret\n", Some((1, 5))),
         (b"const 0F\ncode\nret\n", Some((1, 5))),
-        (b"provides 1 abcd .0\nprovides 1 abcd .0\ncode\nret\n", Some((1, 6))),
+        (
+            b"provides 1 abcd .0\nprovides 1 abcd .0\ncode\nret\n",
+            Some((1, 6)),
+        ),
         (b"provides 1 abc .0\ncode\nret\n", Some((1, 5))),
         (b"subscribes 0 1 abcd\ncode\nret\n", Some((1, 5))),
         (b"provides 1 abcd .1\ncode\nret\n", Some((3, 5))),
@@ -192,8 +217,14 @@ fn the_head_has_its_order(rt: HostRuntime) -> Result<(), Fail> {
         assert_eq!(rt; found, *expected);
     }
     let first = b"module 1\nversion 1\nstate 0\nhandler .0\n";
-    assert_eq!(rt; refusal_behind(rt.alloc(), first, b"sealed\ncode\nret\n")?, Some((1, 5)));
-    assert_eq!(rt; refusal_behind(rt.alloc(), first, b"const 00\ncode\nret\n")?, Some((1, 5)));
+    assert_eq!(rt;
+        refusal_behind(rt.alloc(), first, b"sealed\ncode\nret\n")?,
+        Some((1, 5))
+    );
+    assert_eq!(rt;
+        refusal_behind(rt.alloc(), first, b"const 00\ncode\nret\n")?,
+        Some((1, 5))
+    );
     Ok(())
 }
 
@@ -211,7 +242,10 @@ fn sixteen_functions_are_provided(rt: HostRuntime) -> Result<(), Fail> {
         text.extend_from_slice(b" abcd .0\n")?;
     }
     assert_eq!(rt; refusal_behind(rt.alloc(), &text, b"code\nret\n")?, None);
-    assert_eq!(rt; refusal_behind(rt.alloc(), &text, b"provides 40 abcd .0\ncode\nret\n")?, Some((1, 21)));
+    assert_eq!(rt;
+        refusal_behind(rt.alloc(), &text, b"provides 40 abcd .0\ncode\nret\n")?,
+        Some((1, 21))
+    );
     Ok(())
 }
 
