@@ -89,7 +89,7 @@ own_step all firsts sealed k place None ps us known rules is own few h = h
 own_step all firsts sealed k place (Some (Item u goal)) ps us known rules is own few h =
     let here : slice_index firsts k ≡ place = sym (own 0 (omega arith) ∙ ap (slice_index firsts) (add_none k)) in
     let kind = own_kind sealed u (led all (some_goal goal)) rules.0 in
-    let reach = unit_reaches all firsts sealed k place u goal known here (omega (arith, few)) rules.1 (λ g. is goal (some_is goal g)) in
+    let reach = unit_reaches all firsts sealed k place u goal known here (omega (arith, few)) rules.2 (λ g. is goal (some_is goal g)) in
     record {
       encodable = (kind.0, reach.0, subst (λ (n : ℕ). AreEncodable firsts (place + n) us) (sym (own_words sealed u (led all (some_goal goal)))) h.encodable);
       kinds = (kind.0, h.kinds);

@@ -11,3 +11,5 @@ pub mod Images
 pub mod Sources
 pub mod Least
 pub mod Passing
+pub mod Respelled
+pub mod Whole

@@ -144,14 +144,13 @@ either true x y p q = p
 either false x y p q = q
 
 -- a unit that stands by itself has no goal, since it has no target
-no_goal : (u : Unit) → IsSound (Part (Whole u)) → Rules (Item u [])
-no_goal (unit.Branch set bit target) h = absurd (let none = h.1 0 in omega (arith, none))
-no_goal (unit.Jump target) h = absurd (let none = h.1 0 in omega (arith, none))
-no_goal (unit.LocalCall target) h = absurd (let none = h.1 0 in omega (arith, none))
-no_goal u h = (h.0, refl)
-
 standing_kept : (s : Standing) → IsSound s → K (standing_item s)
-standing_kept (Part (Whole u)) h = record { rules = no_goal u h }
+standing_kept (Part (Whole (unit.Load i))) h = record { rules = tt }
+standing_kept (Part (Whole (unit.Branch set bit target))) h = absurd (let none = h.1 0 in omega (arith, none))
+standing_kept (Part (Whole (unit.Jump target))) h = absurd (let none = h.1 0 in omega (arith, none))
+standing_kept (Part (Whole (unit.LocalCall target))) h = absurd (let none = h.1 0 in omega (arith, none))
+standing_kept (Part (Whole (unit.Plain i))) h = record { rules = (h.0, refl, refl) }
+standing_kept (Part (Whole u)) h = record { rules = (h.0, tt, refl) }
 standing_kept (Part (Aimed aim offset)) h = record { rules = tt }
 standing_kept NoInstruction h = record { rules = tt }
 standing_kept (Barred kind) h = record { rules = tt }
@@ -163,15 +162,15 @@ when_kept false l h = record { rules = tt }
 named_unit_kept : (name a b : List ℕ) → K (named_unit name a b)
 unfolding named_unit
 named_unit_kept name a b =
-    either (bytes_eq name (codes "setsps")) (Some (Item (unit.SpGroup true) [])) _ (record { rules = (tt, refl) })
-    (either (bytes_eq name (codes "setsp")) (Some (Item (unit.SpGroup false) [])) _ (record { rules = (tt, refl) })
-    (either (bytes_eq name (codes "reserve")) (Some (Item unit.Reserve [])) _ (record { rules = (tt, refl) })
-    (either (bytes_eq name (codes "brbs")) (aiming (unit.Branch true (bit a) 0) (drop 1 b)) _ (when_kept (is_goal (drop 1 b)) _ (λ h. (omega arith, (refl, h))))
-    (either (bytes_eq name (codes "brbc")) (aiming (unit.Branch false (bit a) 0) (drop 1 b)) _ (when_kept (is_goal (drop 1 b)) _ (λ h. (omega arith, (refl, h))))
-    (either (bytes_eq name (codes "rjmp")) (aiming (unit.Jump 0) (drop 1 a)) _ (when_kept (is_goal (drop 1 a)) _ (λ h. (tt, (refl, h))))
-    (either (bytes_eq name (codes "rcall")) (aiming (unit.LocalCall 0) (drop 1 a)) _ (when_kept (is_goal (drop 1 a)) _ (λ h. (tt, (refl, h))))
-    (either (bytes_eq name (codes "kcall")) (Some (Item (unit.KernelCall (value a % kernel_call_count)) [])) _ (record { rules = (omega arith, refl) })
-    (either (bytes_eq name (codes "scall")) (Some (Item (unit.SlotCall (value a % slot_count)) [])) _ (record { rules = (omega arith, refl) })
+    either (bytes_eq name (codes "setsps")) (Some (Item (unit.SpGroup true) [])) _ (record { rules = (tt, tt, refl) })
+    (either (bytes_eq name (codes "setsp")) (Some (Item (unit.SpGroup false) [])) _ (record { rules = (tt, tt, refl) })
+    (either (bytes_eq name (codes "reserve")) (Some (Item unit.Reserve [])) _ (record { rules = (tt, tt, refl) })
+    (either (bytes_eq name (codes "brbs")) (aiming (unit.Branch true (bit a) 0) (drop 1 b)) _ (when_kept (is_goal (drop 1 b)) _ (λ h. (omega arith, tt, (refl, h))))
+    (either (bytes_eq name (codes "brbc")) (aiming (unit.Branch false (bit a) 0) (drop 1 b)) _ (when_kept (is_goal (drop 1 b)) _ (λ h. (omega arith, tt, (refl, h))))
+    (either (bytes_eq name (codes "rjmp")) (aiming (unit.Jump 0) (drop 1 a)) _ (when_kept (is_goal (drop 1 a)) _ (λ h. (tt, tt, (refl, h))))
+    (either (bytes_eq name (codes "rcall")) (aiming (unit.LocalCall 0) (drop 1 a)) _ (when_kept (is_goal (drop 1 a)) _ (λ h. (tt, tt, (refl, h))))
+    (either (bytes_eq name (codes "kcall")) (Some (Item (unit.KernelCall (value a % kernel_call_count)) [])) _ (record { rules = (omega arith, tt, refl) })
+    (either (bytes_eq name (codes "scall")) (Some (Item (unit.SlotCall (value a % slot_count)) [])) _ (record { rules = (omega arith, tt, refl) })
     (standing_kept _ (standing_is_sound (named_instruction name a b) (named_instruction_encodable name a b).range))))))))))
 
 two_versions : (n : ℕ) → (1 + n % 2 ≡ 1) ⊎ (1 + n % 2 ≡ 2)

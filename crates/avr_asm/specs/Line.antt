@@ -2,7 +2,7 @@
 use Rattle.std.specs.Prelude.{◌≡◌, ℕ, ◌*◌, ◌<◌, ◌≤◌, Bool, true, false, List, [], ◌∷◌, ◌++◌, length, codes, decimal, ⊤}
 use Rattle.unit_code.specs.declared.unit.Unit.{Unit}
 use Rattle.unit_code.specs.declared.unit.Unit.TheVariants.{Branch, Jump, LocalCall}
-use Rattle.unit_code.specs.Proper.{IsOfKind}
+use Rattle.unit_code.specs.Proper.{IsGuardedSo, IsOfKind}
 use Rattle.avr_list.specs.Lines.{unit_text}
 use Rattle.avr_list.specs.Operands.{with_operand, with_operands}
 use Rattle.mote_base.specs.Words.{IsWord}
@@ -60,7 +60,7 @@ HasGoal (Jump u) goal = (u ≡ 0) × (is_goal goal ≡ true)
 HasGoal (LocalCall u) goal = (u ≡ 0) × (is_goal goal ≡ true)
 HasGoal u goal = goal ≡ []
 
--- The rules of a line by itself.
+-- The rules of a line by itself. A load of a line is plain: whether it is checked, the whole text says.
 abbrev pub Rules : Line → Type 0
 Rules (Module id) = IsModuleId id
 Rules (Version version) = IsVersion version
@@ -72,7 +72,7 @@ Rules (Subscribes provider func proto) = IsModuleId provider × (func < 256) × 
 Rules (Const pairs) = (are_pairs pairs ≡ true) × (1 ≤ length pairs) × (length pairs ≤ 2 * constants_limit)
 Rules Code = ⊤
 Rules (Label name) = is_name name ≡ true
-Rules (Item unit goal) = IsOfKind unit × HasGoal unit goal
+Rules (Item unit goal) = IsOfKind unit × IsGuardedSo false unit × HasGoal unit goal
 
 -- The bytes, with their line feed, say that line: they are its text, and it keeps its rules.
 pub record Says (text : List ℕ) (l : Line) : Type 0 where

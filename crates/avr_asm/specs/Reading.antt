@@ -159,6 +159,7 @@ named_instruction name a b =
 
 -- The unit that an instruction makes by itself; a refused instruction makes none.
 abbrev pub standing_item : Standing → Option Line
+standing_item (Part (Whole (unit.Load i))) = None
 standing_item (Part (Whole u)) = Some (Item u [])
 standing_item _ = None
 

@@ -27,6 +27,7 @@ fn standing_item<'a>(standing: Standing) -> Option<Said<'a>>
     ensures { seen_option result ≡ standing_item standing }
 {
     match standing {
+        Standing::Part(Piece::Whole(Unit::Load(_))) => None,
         Standing::Part(Piece::Whole(unit)) => Some(Said::Item(unit, &[])),
         _ => None,
     }
