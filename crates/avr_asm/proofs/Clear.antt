@@ -51,7 +51,7 @@ passed_by : (b : Bool) (n : ℕ) (o : Option ℕ) → cond b (Some n) o ≡ None
 passed_by true n o h = absurd (cc)
 passed_by false n o h = (refl, h)
 
-every : (q : Row → Bool) (rs : List Row) → first (λ r others. q r) rs ≡ None → AllByRecursion (λ r. q r ≡ false) rs
+pub every : (q : Row → Bool) (rs : List Row) → first (λ r others. q r) rs ≡ None → AllByRecursion (λ r. q r ≡ false) rs
 every q [] h = tt
 every q (r ∷ rs) h = let p = passed_by (q r) r.line (first (λ x others. q x) rs) h in (p.0, every q rs p.1)
 
@@ -61,11 +61,11 @@ lacks all total n k None h = h
 lacks all total n k (Some _) h = h
 
 -- each row with a goal leads to a unit
-led_rows : (all : List Row) (total : ℕ) (rs : List Row) → AllByRecursion (λ r. is_mislabelled all total r.line r.unit r.says ≡ false) rs → AllByRecursion (λ r. leads_astray all total r (goal_of r.says) ≡ false) rs → AllByRecursion (λ r. IsLedRow all total r (goal_of r.says)) rs
+pub led_rows : (all : List Row) (total : ℕ) (rs : List Row) → AllByRecursion (λ r. is_mislabelled all total r.line r.unit r.says ≡ false) rs → AllByRecursion (λ r. leads_astray all total r (goal_of r.says) ≡ false) rs → AllByRecursion (λ r. IsLedRow all total r (goal_of r.says)) rs
 led_rows all total [] n l = tt
 led_rows all total (r ∷ rs) n l = (led_row all total r (goal_of r.says) (lacks all total r.line r.unit r.says n.0) l.0, led_rows all total rs n.1 l.1)
 
-not_late : (end total : ℕ) → too_early end total ≡ None → 0 < total
+pub not_late : (end total : ℕ) → too_early end total ≡ None → 0 < total
 not_late end zero h = absurd (cc)
 not_late end (suc n) h = omega arith
 

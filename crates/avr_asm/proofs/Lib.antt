@@ -13,3 +13,5 @@ pub mod Least
 pub mod Passing
 pub mod Respelled
 pub mod Whole
+pub mod Canons
+pub mod Uniques

@@ -96,7 +96,7 @@ placed n s k place (t ∷ ts) h = elim (is_blank t) as (λ b. first is_misplaced
   | false ↦ placed_row n s k place (said t) ts (λ next j at. placed (suc n) next j at ts)
 ] h
 
-allowed_is : (b : Bool) (s next : Stage) → allowed b s ≡ Some next → (b ≡ true) × (s ≡ next)
+pub allowed_is : (b : Bool) (s next : Stage) → allowed b s ≡ Some next → (b ≡ true) × (s ≡ next)
 allowed_is true s next h = (refl, (let e : s ≡ next = cc in e))
 allowed_is false s next h = absurd (cc)
 
@@ -194,10 +194,10 @@ later s total id version sealed pairs h rest = record {
   late = λ e v. rest v;
 }
 
-at : (wanted step : Step) → is_at wanted step ≡ true → rank step ≡ rank wanted
+pub at : (wanted step : Step) → is_at wanted step ≡ true → rank step ≡ rank wanted
 at wanted step h = eqb-true (rank step) (rank wanted) h
 
-between : (last step : Step) → is_between last step ≡ true → 4 ≤ rank step
+pub between : (last step : Step) → is_between last step ≡ true → 4 ≤ rank step
 between last step h = leb-true 4 (rank step) (and_parts (nat_le 4 (rank step)) _ h).0
 
 -- a stage of the second version is not one of the first
