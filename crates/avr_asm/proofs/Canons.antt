@@ -71,9 +71,10 @@ says_some s o next h e = let none : None ≡ Some next = ap (behind s) (sym e) �
 canon_is : (all : List Row) (n : ℕ) (s : Stage) (k place : ℕ) (ts : List (List ℕ)) (from : Stage) → Placed from (rows n s k place ts) → canon_from all ts ≡ text_of (canon_lines all (rows n s k place ts))
 canon_is all n s k place [] from p = refl
 canon_is all n s k place (t ∷ ts) from p = elim (is_blank t) as (λ b. Placed from (cond b (rows (suc n) s k place ts) (rowed n s k place (said t) ts)) → cond b (canon_from all ts) (canon_line all t (said t) ++ canon_from all ts) ≡ text_of (canon_lines all (cond b (rows (suc n) s k place ts) (rowed n s k place (said t) ts)))) [
-    true ↦ canon_is all (suc n) s k place ts from
+  | true ↦ canon_is all (suc n) s k place ts from
   | false ↦ λ q. canon_step all t (said t) (canon_from all ts) (canon_lines all (rows (suc n) (kept s (behind s (said t))) (unit_after k (said t)) (place_after place (said t)) ts)) refl (says_some from (said t) q.0 q.1)
-      (canon_is all (suc n) (kept s (behind s (said t))) (unit_after k (said t)) (place_after place (said t)) ts q.0 q.2) ] p
+      (canon_is all (suc n) (kept s (behind s (said t))) (unit_after k (said t)) (place_after place (said t)) ts q.0 q.2)
+] p
 
 -- What rows have no more, by the step that they come behind.
 record Late (s : Stage) (sealed : Bool) (ps : List Provided) (ns : List ℕ) (ss : List Subscribed) (pairs : List ℕ) : Type 0 where
@@ -110,13 +111,15 @@ hex_cases false b h = inr h
 
 or_none_left : (c : ℕ) → is_hex c ≡ true → c < 97 → (48 ≤ c) × (c ≤ 57)
 or_none_left c h low = elim (hex_cases (is_digit c) _ h) as (λ z. (48 ≤ c) × (c ≤ 57)) [
-    inl d ↦ (let p = and_parts (nat_le 48 c) _ d in (leb-true 48 c p.0, leb-true c 57 p.1))
-  | inr l ↦ (let p = and_parts (nat_le 97 c) _ l in absurd (let q = leb-true 97 c p.0 in omega (arith, q, low))) ]
+  | inl d ↦ (let p = and_parts (nat_le 48 c) _ d in (leb-true 48 c p.0, leb-true c 57 p.1))
+  | inr l ↦ (let p = and_parts (nat_le 97 c) _ l in absurd (let q = leb-true 97 c p.0 in omega (arith, q, low)))
+]
 
 hex_top : (c : ℕ) → is_hex c ≡ true → 97 ≤ c → c ≤ 102
 hex_top c h high = elim (hex_cases (is_digit c) _ h) as (λ z. c ≤ 102) [
-    inl d ↦ (let p = and_parts (nat_le 48 c) _ d in absurd (let q = leb-true c 57 p.1 in omega (arith, q, high)))
-  | inr l ↦ (let p = and_parts (nat_le 97 c) _ l in leb-true c 102 p.1) ]
+  | inl d ↦ (let p = and_parts (nat_le 48 c) _ d in absurd (let q = leb-true c 57 p.1 in omega (arith, q, high)))
+  | inr l ↦ (let p = and_parts (nat_le 97 c) _ l in leb-true c 102 p.1)
+]
 
 low_digit : (c : ℕ) → is_hex c ≡ true → c < 97 → (digit_char (hex_value c) ≡ c) × (hex_value c < 16)
 low_digit c h low =
@@ -132,8 +135,9 @@ high_digit c h high =
 
 digit_is : (c : ℕ) → is_hex c ≡ true → (digit_char (hex_value c) ≡ c) × (hex_value c < 16)
 digit_is c h = elim (cases_lt c 97) as (λ z. (digit_char (hex_value c) ≡ c) × (hex_value c < 16)) [
-    inl low ↦ low_digit c h low
-  | inr high ↦ high_digit c h high ]
+  | inl low ↦ low_digit c h low
+  | inr high ↦ high_digit c h high
+]
 
 pairs_back : (pairs : List ℕ) → are_pairs pairs ≡ true → pairs_text (pair_bytes pairs) ≡ pairs
 pairs_back [] h = refl
@@ -145,7 +149,7 @@ pairs_back (x ∷ y ∷ rest) h =
     let front : (16 * hex_value x + hex_value y) / 16 ≡ hex_value x = omega (arith, other) in
     let behind : (16 * hex_value x + hex_value y) % 16 ≡ hex_value y = omega (arith, other) in
     ap₂ (λ (m n : ℕ). digit_char m ∷ digit_char n ∷ pairs_text (pair_bytes rest)) front behind
-  ∙ ap₂ (λ (m n : ℕ). m ∷ n ∷ pairs_text (pair_bytes rest)) a.0 b.0 ∙ ap (λ (z : List ℕ). x ∷ y ∷ z) (pairs_back rest q.1)
+    ∙ ap₂ (λ (m n : ℕ). m ∷ n ∷ pairs_text (pair_bytes rest)) a.0 b.0 ∙ ap (λ (z : List ℕ). x ∷ y ∷ z) (pairs_back rest q.1)
 
 constant_is : (pairs : List ℕ) → are_pairs pairs ≡ true → 1 ≤ length pairs → constant_lines (pair_bytes pairs) ≡ Const pairs ∷ []
 constant_is [] h some = absurd (omega (arith, some))
@@ -301,23 +305,23 @@ ok_same a b r h k = cc
 -- the lines of the image of rows are the canonical ones of the rows
 lines_are : (end : ℕ) (lines : List (List ℕ)) (code : List ℕ) → refused end (rows_of lines) ≡ None → lines_from (contents_of (rows_of lines) code) (listing_of (rows_of lines)) ≡ canon_lines (rows_of lines) (rows_of lines)
 lines_are end lines code h =
-  let all : List Row = rows_of lines in
-  let p = passes end all h in
-  let leads : AllByRecursion (λ r. IsLedRow all (count all) r (goal_of r.says)) all = led_rows all (count all) all (every (λ r. is_mislabelled all (count all) r.line r.unit r.says) all p.named) (every (λ r. leads_astray all (count all) r (goal_of r.says)) all p.led) in
+    let all : List Row = rows_of lines in
+    let p = passes end all h in
+    let leads : AllByRecursion (λ r. IsLedRow all (count all) r (goal_of r.says)) all = led_rows all (count all) all (every (λ r. is_mislabelled all (count all) r.line r.unit r.says) all p.named) (every (λ r. leads_astray all (count all) r (goal_of r.says)) all p.led) in
     sym ((ordered all (count all) start all (placed 1 start 0 0 lines p.placed) (ruled 1 start 0 0 lines) leads).zeroth refl (not_late end (count all) p.late))
 
 canon_of : (end : ℕ) (lines : List (List ℕ)) (c : Contents) → refused end (rows_of lines) ≡ None → R.Rules c → IsAssembled (rows_of lines) c → text_of (lines_from c (listed c.code (marks_of c) c.sealed)) ≡ canon_from (rows_of lines) lines
 canon_of end lines c h rules a =
-  let all : List Row = rows_of lines in
-  let p = passes end all h in
+    let all : List Row = rows_of lines in
+    let p = passes end all h in
     ap (λ (l : Listing). text_of (lines_from c l)) (read_units all c rules a).1
-  ∙ ap (λ (d : Contents). text_of (lines_from d (listing_of all))) a.fields
-  ∙ ap text_of (lines_are end lines c.code h)
-  ∙ sym (canon_is all 1 start 0 0 lines start (placed 1 start 0 0 lines p.placed))
+    ∙ ap (λ (d : Contents). text_of (lines_from d (listing_of all))) a.fields
+    ∙ ap text_of (lines_are end lines c.code h)
+    ∙ sym (canon_is all 1 start 0 0 lines start (placed 1 start 0 0 lines p.placed))
 
 pub source_is_canonical : SourceIsCanonical
 unfolding source_of canon refusal_of
 source_is_canonical text bytes c none i read =
-  let same : i.contents ≡ c = ok_same i.contents c (image_of bytes) (image_read bytes (image_of bytes) i.contents refl i.image) read in
+    let same : i.contents ≡ c = ok_same i.contents c (image_of bytes) (image_read bytes (image_of bytes) i.contents refl i.image) read in
     ap (λ (d : Contents). text_of (lines_from d (listed d.code (marks_of d) d.sealed))) (sym same)
-  ∙ canon_of (suc (length (lines_in text))) (lines_in text) i.contents none i.image.rules i.assembled
+    ∙ canon_of (suc (length (lines_in text))) (lines_in text) i.contents none i.image.rules i.assembled

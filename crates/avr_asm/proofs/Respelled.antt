@@ -65,8 +65,9 @@ high_glyph d e h = subst (λ (c : ℕ). hex_value c ≡ d) (sym (cond-false (nat
 
 glyph : (d : ℕ) → d < 16 → hex_value (digit_char d) ≡ d
 glyph d h = elim (cases_lt d 10) as (λ z. hex_value (digit_char d) ≡ d) [
-    inl low ↦ low_glyph d (cond-false (nat_le 97 (48 + d)) _ _ (lt-leb 97 (48 + d) (omega (arith, low))) ∙ omega arith) low
-  | inr high ↦ high_glyph d (cond-true (nat_le 97 (87 + d)) _ _ (le-leb 97 (87 + d) (omega (arith, high))) ∙ omega arith) high ]
+  | inl low ↦ low_glyph d (cond-false (nat_le 97 (48 + d)) _ _ (lt-leb 97 (48 + d) (omega (arith, low))) ∙ omega arith) low
+  | inr high ↦ high_glyph d (cond-true (nat_le 97 (87 + d)) _ _ (le-leb 97 (87 + d) (omega (arith, high))) ∙ omega arith) high
+]
 
 far : (a : ℕ) → a < 2 ^ 16 → address (48 ∷ 120 ∷ word_digits a) ≡ a
 far a h =

@@ -41,8 +41,9 @@ free_has c (x ∷ xs) h = cond-false (x == c) true (has c xs) (ne_eqb x c h.0) �
 
 glyph_not : (d : ℕ) → d < 16 → (digit_char d == 10) ≡ false
 glyph_not d h = elim (cases_lt d 10) as (λ z. (digit_char d == 10) ≡ false) [
-    inl low ↦ subst (λ (c : ℕ). (c == 10) ≡ false) (sym (cond-true (nat_lt d 10) (48 + d) (87 + d) (lt-ltb d 10 low))) (ne_eqb (48 + d) 10 (λ e. omega (arith, e)))
-  | inr high ↦ subst (λ (c : ℕ). (c == 10) ≡ false) (sym (cond-false (nat_lt d 10) (48 + d) (87 + d) (le-ltb d 10 high))) (ne_eqb (87 + d) 10 (λ e. omega (arith, e))) ]
+  | inl low ↦ subst (λ (c : ℕ). (c == 10) ≡ false) (sym (cond-true (nat_lt d 10) (48 + d) (87 + d) (lt-ltb d 10 low))) (ne_eqb (48 + d) 10 (λ e. omega (arith, e)))
+  | inr high ↦ subst (λ (c : ℕ). (c == 10) ≡ false) (sym (cond-false (nat_lt d 10) (48 + d) (87 + d) (le-ltb d 10 high))) (ne_eqb (87 + d) 10 (λ e. omega (arith, e)))
+]
 
 one_glyph : (x : ℕ) (xs : List ℕ) → (x == 10) ≡ false → has 10 xs ≡ false → has 10 (x ∷ xs) ≡ false
 one_glyph x xs h k = cond-false (x == 10) true (has 10 xs) h ∙ k
@@ -64,7 +65,7 @@ operand_lacks (Behind Y q) r = lacks-decimal 10 q refl r
 operand_lacks (Behind Z q) r = lacks-decimal 10 q refl r
 operand_lacks (Address a) r =
     one_glyph (digit_char (a / 4096)) (digit_char (a / 256 % 16) ∷ digit_char (a / 16 % 16) ∷ digit_char (a % 16) ∷ []) (glyph_not (a / 4096) (omega (arith, r))) (one_glyph (digit_char (a / 256 % 16)) (digit_char (a / 16 % 16) ∷ digit_char (a % 16) ∷ []) (glyph_not (a / 256 % 16) (omega arith))
-      (one_glyph (digit_char (a / 16 % 16)) (digit_char (a % 16) ∷ []) (glyph_not (a / 16 % 16) (omega arith)) (one_glyph (digit_char (a % 16)) [] (glyph_not (a % 16) (omega arith)) refl)))
+    (one_glyph (digit_char (a / 16 % 16)) (digit_char (a % 16) ∷ []) (glyph_not (a / 16 % 16) (omega arith)) (one_glyph (digit_char (a % 16)) [] (glyph_not (a % 16) (omega arith)) refl)))
 operand_lacks (Target u) r = lacks-decimal 10 u refl r
 
 -- what stands behind the name
@@ -78,10 +79,10 @@ unfolding candidate
 flat_parted name nothing n l = cond-false (has 32 name) _ _ n ∙ cond-false (has 58 name) _ _ l
 flat_parted name (one a) n l =
     cond-true (has 32 (name ++ (32 ∷ operand_text a))) _ _ (has-parted 32 name (operand_text a))
-  ∙ ap₂ headed (front-parted 32 name (operand_text a) n) (back-parted 32 name (operand_text a) n)
+    ∙ ap₂ headed (front-parted 32 name (operand_text a) n) (back-parted 32 name (operand_text a) n)
 flat_parted name (two a b) n l =
     cond-true (has 32 (name ++ (32 ∷ rest_of (two a b)))) _ _ (has-parted 32 name (rest_of (two a b)))
-  ∙ ap₂ headed (front-parted 32 name (rest_of (two a b)) n) (back-parted 32 name (rest_of (two a b)) n)
+    ∙ ap₂ headed (front-parted 32 name (rest_of (two a b)) n) (back-parted 32 name (rest_of (two a b)) n)
 
 first_part : (p : Operands) → AreRanged p → front 44 (rest_of p) ≡ first_of p
 first_part nothing r = refl
@@ -110,8 +111,8 @@ held_reads i e has_text r is =
     let text : instruction_text i ≡ flat name p = is ∙ joined_flat name p in
     let lacks = name_lacks i in record {
       proposes = ap candidate text ∙ flat_parted name p lacks.0 lacks.1 ∙ instruction_headed i (rest_of p)
-        ∙ ap₂ (λ (a b : List ℕ). standing_item (standing_of (named_instruction name a b))) (first_part p r) (second_part p r)
-        ∙ ap (λ (j : Instr). standing_item (standing_of j)) (instruction_named i e has_text);
+          ∙ ap₂ (λ (a b : List ℕ). standing_item (standing_of (named_instruction name a b))) (first_part p r) (second_part p r)
+          ∙ ap (λ (j : Instr). standing_item (standing_of j)) (instruction_named i e has_text);
       lacks = ap (has 10) text ∙ flat_lacks name p lacks.2 r;
     }
 
@@ -203,23 +204,23 @@ item_reads unit.Return goal h = record { proposes = own unit.Return goal h.2; la
 item_reads (unit.KernelCall n) goal h =
     let low = h.0 in record {
       proposes = ap (λ (v : ℕ). Some (Item (unit.KernelCall (v % kernel_call_count)) [])) (number_rest n (omega (arith, low)))
-        ∙ ap (λ (v : ℕ). Some (Item (unit.KernelCall v) [])) (below_twelve n low) ∙ own (unit.KernelCall n) goal h.2;
+          ∙ ap (λ (v : ℕ). Some (Item (unit.KernelCall v) [])) (below_twelve n low) ∙ own (unit.KernelCall n) goal h.2;
       lacks = lacks-decimal 10 n refl (omega (arith, low));
     }
 item_reads (unit.SlotCall n) goal h =
     let low = h.0 in record {
       proposes = ap (λ (v : ℕ). Some (Item (unit.SlotCall (v % slot_count)) [])) (number_rest n (omega (arith, low)))
-        ∙ ap (λ (v : ℕ). Some (Item (unit.SlotCall v) [])) (below_sixteen n low) ∙ own (unit.SlotCall n) goal h.2;
+          ∙ ap (λ (v : ℕ). Some (Item (unit.SlotCall v) [])) (below_sixteen n low) ∙ own (unit.SlotCall n) goal h.2;
       lacks = lacks-decimal 10 n refl (omega (arith, low));
     }
 item_reads (unit.Jump t) goal h = record {
-      proposes = ap (λ (g : List ℕ). aiming (unit.Jump 0) g) (front-whole 44 goal (lacks-word 44 goal refl (goal_word goal h.2.1))) ∙ aimed (unit.Jump 0) goal h.2.1 ∙ zero_is (λ n. unit.Jump n) t goal h.2.0;
-      lacks = lacks-word 10 goal refl (goal_word goal h.2.1);
-    }
+  proposes = ap (λ (g : List ℕ). aiming (unit.Jump 0) g) (front-whole 44 goal (lacks-word 44 goal refl (goal_word goal h.2.1))) ∙ aimed (unit.Jump 0) goal h.2.1 ∙ zero_is (λ n. unit.Jump n) t goal h.2.0;
+  lacks = lacks-word 10 goal refl (goal_word goal h.2.1);
+}
 item_reads (unit.LocalCall t) goal h = record {
-      proposes = ap (λ (g : List ℕ). aiming (unit.LocalCall 0) g) (front-whole 44 goal (lacks-word 44 goal refl (goal_word goal h.2.1))) ∙ aimed (unit.LocalCall 0) goal h.2.1 ∙ zero_is (λ n. unit.LocalCall n) t goal h.2.0;
-      lacks = lacks-word 10 goal refl (goal_word goal h.2.1);
-    }
+  proposes = ap (λ (g : List ℕ). aiming (unit.LocalCall 0) g) (front-whole 44 goal (lacks-word 44 goal refl (goal_word goal h.2.1))) ∙ aimed (unit.LocalCall 0) goal h.2.1 ∙ zero_is (λ n. unit.LocalCall n) t goal h.2.0;
+  lacks = lacks-word 10 goal refl (goal_word goal h.2.1);
+}
 item_reads (unit.Branch true n t) goal h = branch_reads true n t goal h
 item_reads (unit.Branch false n t) goal h = branch_reads false n t goal h
 
@@ -230,7 +231,7 @@ printable_not b c hb hc = ne_eqb c b (λ e. absurd (true≢false (sym hc ∙ ap 
 prototype_lacks : (b : ℕ) (proto : List ℕ) → is_printable b ≡ false → is_prototype proto ≡ true → has b proto ≡ false
 prototype_lacks b (w ∷ x ∷ y ∷ z ∷ []) hb h =
     let p = and_parts (is_printable w) _ h in let q = and_parts (is_printable x) _ p.1 in let r = and_parts (is_printable y) _ q.1 in
-      cond-false (w == b) true _ (printable_not b w hb p.0) ∙ cond-false (x == b) true _ (printable_not b x hb q.0)
+    cond-false (w == b) true _ (printable_not b w hb p.0) ∙ cond-false (x == b) true _ (printable_not b x hb q.0)
     ∙ cond-false (y == b) true _ (printable_not b y hb r.0) ∙ cond-false (z == b) true _ (printable_not b z hb r.1)
 prototype_lacks b _ hb h = absurd (true≢false (sym h))
 
@@ -271,11 +272,11 @@ line_reads (Const pairs) h =
 line_reads (Label name) h =
     let w : are_word name ≡ true = (and_parts (are_word name) _ h).0 in
     head_reads (Label name) _
-      (cond-false (has 32 (name ++ (58 ∷ []))) _ _ (has-behind 32 name (58 ∷ []) (lacks-word 32 name refl w))
-      ∙ cond-true (has 58 (name ++ (58 ∷ []))) _ _ (has-parted 58 name [])
-      ∙ ap (λ (n : List ℕ). when (is_name n) (Label n)) (front-parted 58 name [] (lacks-word 58 name refl w))
-      ∙ ap (λ (b : Bool). when b (Label name)) h)
-      (has-behind 10 name (58 ∷ []) (lacks-word 10 name refl w))
+    (cond-false (has 32 (name ++ (58 ∷ []))) _ _ (has-behind 32 name (58 ∷ []) (lacks-word 32 name refl w))
+    ∙ cond-true (has 58 (name ++ (58 ∷ []))) _ _ (has-parted 58 name [])
+    ∙ ap (λ (n : List ℕ). when (is_name n) (Label n)) (front-parted 58 name [] (lacks-word 58 name refl w))
+    ∙ ap (λ (b : Bool). when b (Label name)) h)
+    (has-behind 10 name (58 ∷ []) (lacks-word 10 name refl w))
 line_reads (Provides func proto goal) h =
     let number = lacks-decimal 32 func refl (let low = h.0 in omega (arith, low)) in
     let chars = prototype_lacks 32 proto refl h.1 in
@@ -283,12 +284,12 @@ line_reads (Provides func proto goal) h =
     let a = front-parted 32 (decimal func) behind number in
     let b = back-parted 32 (decimal func) behind number in
     head_reads (Provides func proto goal) _
-      (ap₂ (λ (f rest : List ℕ). provides f (front 32 rest) (drop 1 (back 32 rest))) a b
-      ∙ ap₂ (λ (p rest : List ℕ). provides (decimal func) p (drop 1 rest)) (front-parted 32 proto (46 ∷ goal) chars) (back-parted 32 proto (46 ∷ goal) chars)
-      ∙ ap (λ (t : Bool). when t (Provides (value (decimal func) % 256) proto goal)) (and_from (is_prototype proto) _ h.1 h.2)
-      ∙ ap (λ (n : ℕ). Some (Provides n proto goal)) (func_is func h.0))
-      (has-behind 10 (decimal func) (32 ∷ behind) (lacks-decimal 10 func refl (let low = h.0 in omega (arith, low)))
-      ∙ has-behind 10 proto (32 ∷ 46 ∷ goal) (prototype_lacks 10 proto refl h.1) ∙ lacks-word 10 goal refl (goal_word goal h.2))
+    (ap₂ (λ (f rest : List ℕ). provides f (front 32 rest) (drop 1 (back 32 rest))) a b
+    ∙ ap₂ (λ (p rest : List ℕ). provides (decimal func) p (drop 1 rest)) (front-parted 32 proto (46 ∷ goal) chars) (back-parted 32 proto (46 ∷ goal) chars)
+    ∙ ap (λ (t : Bool). when t (Provides (value (decimal func) % 256) proto goal)) (and_from (is_prototype proto) _ h.1 h.2)
+    ∙ ap (λ (n : ℕ). Some (Provides n proto goal)) (func_is func h.0))
+    (has-behind 10 (decimal func) (32 ∷ behind) (lacks-decimal 10 func refl (let low = h.0 in omega (arith, low)))
+    ∙ has-behind 10 proto (32 ∷ 46 ∷ goal) (prototype_lacks 10 proto refl h.1) ∙ lacks-word 10 goal refl (goal_word goal h.2))
 line_reads (Subscribes provider func proto) h =
     let low : provider < 2 ^ 16 = (let p = h.0 in omega (arith, p)) in
     let small : func < 2 ^ 16 = (let p = h.1 in omega (arith, p)) in
@@ -296,12 +297,12 @@ line_reads (Subscribes provider func proto) h =
     let other = lacks-decimal 32 func refl small in
     let behind : List ℕ = decimal func ++ (32 ∷ proto) in
     head_reads (Subscribes provider func proto) _
-      (ap₂ (λ (m rest : List ℕ). subscribes m (front 32 rest) (back 32 rest)) (front-parted 32 (decimal provider) behind one) (back-parted 32 (decimal provider) behind one)
-      ∙ ap₂ (λ (f p : List ℕ). subscribes (decimal provider) f p) (front-parted 32 (decimal func) proto other) (back-parted 32 (decimal func) proto other)
-      ∙ ap (λ (t : Bool). when t (Subscribes (module_id (decimal provider)) (value (decimal func) % 256) proto)) h.2
-      ∙ ap₂ (λ (m n : ℕ). Some (Subscribes m n proto)) (id_is provider h.0) (func_is func h.1))
-      (has-behind 10 (decimal provider) (32 ∷ behind) (lacks-decimal 10 provider refl low)
-      ∙ has-behind 10 (decimal func) (32 ∷ proto) (lacks-decimal 10 func refl small) ∙ prototype_lacks 10 proto refl h.2)
+    (ap₂ (λ (m rest : List ℕ). subscribes m (front 32 rest) (back 32 rest)) (front-parted 32 (decimal provider) behind one) (back-parted 32 (decimal provider) behind one)
+    ∙ ap₂ (λ (f p : List ℕ). subscribes (decimal provider) f p) (front-parted 32 (decimal func) proto other) (back-parted 32 (decimal func) proto other)
+    ∙ ap (λ (t : Bool). when t (Subscribes (module_id (decimal provider)) (value (decimal func) % 256) proto)) h.2
+    ∙ ap₂ (λ (m n : ℕ). Some (Subscribes m n proto)) (id_is provider h.0) (func_is func h.1))
+    (has-behind 10 (decimal provider) (32 ∷ behind) (lacks-decimal 10 provider refl low)
+    ∙ has-behind 10 (decimal func) (32 ∷ proto) (lacks-decimal 10 func refl small) ∙ prototype_lacks 10 proto refl h.2)
 line_reads (Item u goal) h = item_reads u goal h
 
 pub lines_lack : (l : Line) → Rules l → has 10 (line_text l) ≡ false
@@ -312,8 +313,8 @@ unfolding said
 said_own l h =
     let r = line_reads l h in
     ap (λ (t : List ℕ). spelled (ended l) (candidate t)) (front-parted 10 (line_text l) [] r.lacks)
-  ∙ ap (spelled (ended l)) r.proposes
-  ∙ cond-true (bytes_eq (ended l) (ended l)) (Some l) None ((bytes_eq-Decides (ended l) (ended l)).1 refl)
+    ∙ ap (spelled (ended l)) r.proposes
+    ∙ cond-true (bytes_eq (ended l) (ended l)) (Some l) None ((bytes_eq-Decides (ended l) (ended l)).1 refl)
 
 said_is : (text : List ℕ) (l : Line) → Says text l → said text ≡ Some l
 said_is text l h = ap said h.spelled ∙ said_own l h.rules

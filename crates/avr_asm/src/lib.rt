@@ -21,5 +21,7 @@ mod writing;
 
 pub use assembling::assemble;
 pub use error::{AsmError, SourceError};
-pub use laws::{images_are_one, images_pass, lines_are_read_in_one_way, refusals_are_least, source_is_canonical};
+pub use laws::{
+    images_are_one, images_pass, lines_are_read_in_one_way, refusals_are_least, source_is_canonical,
+};
 pub use sourcing::source;
