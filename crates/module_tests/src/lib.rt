@@ -2,7 +2,11 @@
 #![tactic(auto)]
 
 #[cfg(test)]
+<<<<<<< HEAD
 mod bundles;
+=======
+mod assembler;
+>>>>>>> f628e1ec940c0e5f49be1c85eb3432c4b7887117
 #[cfg(test)]
 mod image;
 #[cfg(test)]
