@@ -19,6 +19,8 @@ pub enum Tool {
     Upgrade,
     /// The image, sealed.
     Seal,
+    /// The verdict on the words of a rewritten image.
+    Verdict,
 }
 
 /// A limit of a run that an option gives.

@@ -7,6 +7,7 @@ pub mod Gather
 pub mod Images
 pub mod Counts
 pub mod Inversion
+pub mod Judged
 pub mod OneFile
 pub mod Prepared
 pub mod Pushed

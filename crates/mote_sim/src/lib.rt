@@ -16,6 +16,7 @@
 mod answer;
 mod certain;
 mod given;
+mod judging;
 mod listing;
 mod one_line;
 mod operands;

@@ -1,12 +1,14 @@
 //! Answers that are one line.
-ghost use Rattle.std.specs.Prelude.{◌≡◌, ◌⊎◌, ◌<◌, length};
+ghost use Rattle.std.specs.Prelude.{◌≡◌, ◌⊎◌, ◌<◌, length, Ok};
 ghost use Rattle.mote_sim.specs.Ending.{Ends, IsAnswer};
 ghost use Rattle.mote_sim.specs.Outcome.{Answers, Refuses};
-ghost use Rattle.mote_sim.specs.Refusal.{BadCode, BadImage, BadScript, TooLong};
+ghost use Rattle.mote_sim.specs.Tools.{Counts, Tells};
+ghost use Rattle.mote_sim.specs.Refusal.{BadCode, BadImage, BadScript, BadWords, TooLong};
 ghost use Rattle.mote_sim.specs.Pieces.{LeadsBySome};
 
 use arrayvec::ArrayVec;
 use event_script::ScriptError;
+use harbor_verify::VerifyError;
 use module_image::ImageError;
 use mote_base::{Line, Sink, Status, add_text};
 use trace_text::add_field;
@@ -74,4 +76,28 @@ pub fn put_code<K: Sink>(out: &mut K, refusal: &CodeError) -> Status
     add_field(&mut line, u64::from(refusal.kind()));
     add_text(&mut line, b"\n");
     put_answer(out, line.as_slice(), Status::Refused)
+}
+
+/// Puts the line on words that spell no units.
+pub fn put_words<K: Sink>(out: &mut K, refusal: &VerifyError) -> Status
+    ensures { Ends K.written K.faults (LeadsBySome K.leads) out.old out.new 0 0
+        (Answers (Refuses (BadWords refusal.now))) result }
+{
+    let mut line: Line = ArrayVec::new();
+    add_text(&mut line, b"refused verify");
+    add_field(&mut line, u64::from(refusal.number()));
+    add_field(&mut line, u64::from(refusal.word()));
+    add_text(&mut line, b"\n");
+    put_answer(out, line.as_slice(), Status::Refused)
+}
+
+/// Puts the verdict that words spell so many units.
+pub fn put_verdict<K: Sink>(out: &mut K, count: u16) -> Status
+    ensures { Ends K.written K.faults (LeadsBySome K.leads) out.old out.new 0 0 (Tells (Ok (Counts count))) result }
+{
+    let mut line: Line = ArrayVec::new();
+    add_text(&mut line, b"ok");
+    add_field(&mut line, u64::from(count));
+    add_text(&mut line, b"\n");
+    put_answer(out, line.as_slice(), Status::Done)
 }

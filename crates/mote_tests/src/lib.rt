@@ -3,6 +3,7 @@
 //! - `rows`: runs and listings of `mote_sim`'s top call, with their faults and limits.
 //! - `words`: which words of the command line are a command, and its options.
 //! - `images`: images that the top call writes by `upgrade` and `seal`.
+//! - `verdicts`: verdicts on rewritten images, and their listings.
 //! - `turns`: turns of a mote of `mote_core` under small limits.
 //! - `scripts`: the events of a script of `event_script`, and what refuses it.
 //! - `traces`: the text of each line of a trace of `trace_text`.
@@ -21,5 +22,7 @@ mod scripts;
 mod traces;
 #[cfg(test)]
 mod turns;
+#[cfg(test)]
+mod verdicts;
 #[cfg(test)]
 mod words;
