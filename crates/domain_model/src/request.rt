@@ -21,6 +21,10 @@ pub enum Tool {
     Seal,
     /// The verdict on the words of a rewritten image.
     Verdict,
+    /// The image of a module's text.
+    Assembly,
+    /// The text of an image.
+    Source,
 }
 
 /// A limit of a run that an option gives.

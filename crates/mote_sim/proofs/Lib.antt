@@ -12,5 +12,6 @@ pub mod OneFile
 pub mod Prepared
 pub mod Pushed
 pub mod SomeBytes
+pub mod Sources
 pub mod Stopped
 pub mod Calls

@@ -9,11 +9,13 @@ use Rattle.harbor_verify.specs.declared.error.VerifyError.{VerifyError}
 use Rattle.harbor_verify.specs.Law.{order, error_word}
 use Rattle.event_script.specs.declared.error.ScriptError.{ScriptError}
 use Rattle.event_script.specs.Law.{kind_number, line_number}
+use Rattle.avr_asm.specs.declared.error.AsmError.{AsmError}
+use Rattle.avr_asm.specs.Errors.{kind_number as asm_number, line_number as asm_line}
 use Rattle.mote_sim.specs.Fields.{field}
 
 -- The file with that number is longer than its limit; the first file is no script; the script or an image is not built;
 -- the file is no image; its code has no units; its words spell none; the image to upgrade is of the second version; the
--- image is rewritten, or sealed, already; or it is an original one, of which no words are verified.
+-- image is rewritten, or sealed, already; it is an original one, of which no words are verified; or the text is no module.
 pub data Refusal : Type 0 where
   TooLong : ℕ → Refusal
   BadScript : ScriptError → Refusal
@@ -24,6 +26,7 @@ pub data Refusal : Type 0 where
   IsAlready : Refusal
   BadWords : VerifyError → Refusal
   IsOriginal : Refusal
+  BadText : AsmError → Refusal
 
 abbrev pub unbuilt_line : List ℕ
 unbuilt_line = codes "refused unbuilt\n"
@@ -58,6 +61,10 @@ code_line e =
 abbrev pub words_line : VerifyError → List ℕ
 words_line e = codes "refused verify" ++ field (order e) ++ field (error_word e) ++ codes "\n"
 
+-- the number of what refuses the text, and the line (want of memory refuses none)
+abbrev pub text_line : AsmError → List ℕ
+text_line e = codes "refused asm" ++ field (asm_number e) ++ field (asm_line e) ++ codes "\n"
+
 abbrev pub line_of : Refusal → List ℕ
 line_of (TooLong number) = size_line number
 line_of (BadScript e) = script_line e
@@ -68,3 +75,4 @@ line_of IsUpgraded = upgraded_line
 line_of IsAlready = already_line
 line_of (BadWords e) = words_line e
 line_of IsOriginal = original_line
+line_of (BadText e) = text_line e

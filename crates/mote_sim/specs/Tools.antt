@@ -16,16 +16,22 @@ use Rattle.harbor_verify.specs.Law.{IsFirst}
 use Rattle.domain_model.specs.declared.request.Tool.{Tool}
 use Rattle.domain_model.specs.declared.request.Tool.TheVariants as tools
 use Rattle.domain_model.specs.Prepared.{marks_of}
+use Rattle.avr_asm.specs.declared.error.AsmError.{AsmError}
+use Rattle.avr_asm.specs.Assembly.{IsImageOf}
+use Rattle.avr_asm.specs.Refusals.{refusal_of}
+use Rattle.avr_asm.specs.Source.{source_of}
 use Rattle.mote_sim.specs.Fields.{field}
 use Rattle.mote_sim.specs.Listing.{listing_text}
-use Rattle.mote_sim.specs.Refusal.{Refusal, BadImage, BadCode, BadWords, IsUpgraded, IsAlready, IsOriginal, line_of}
+use Rattle.mote_sim.specs.Refusal.{Refusal, BadImage, BadCode, BadWords, IsUpgraded, IsAlready, IsOriginal, BadText, line_of}
 
--- What is written: the lines of these units, with their places, the file of the image of these contents, or a verdict: so
--- many units are spelled.
+-- What is written: the lines of these units, with their places, the file of the image of these contents, a verdict, that
+-- so many units are spelled, the image of this text of a module, or this text.
 pub data Output : Type 0 where
   Lists : List Unit → List ℕ → Output
   Writes : Contents → Output
   Counts : ℕ → Output
+  Assembles : List ℕ → Output
+  Says : List ℕ → Output
 
 abbrev pub verdict_line : ℕ → List ℕ
 verdict_line count = codes "ok" ++ field count ++ codes "\n"
@@ -34,6 +40,8 @@ abbrev pub IsOutput : Output → List ℕ → Type 0
 IsOutput (Lists units places) text = text ≡ listing_text units places
 IsOutput (Writes c) text = Image text c
 IsOutput (Counts count) text = text ≡ verdict_line count
+IsOutput (Assembles source) text = IsImageOf source text
+IsOutput (Says said) text = text ≡ said
 
 -- the units of a listing, with their places
 abbrev pub lists : Listing → Output
@@ -107,12 +115,32 @@ abbrev pub seal_by : Result Contents ImageError → Result Output Refusal
 seal_by (Err e) = Err (BadImage e)
 seal_by (Ok c) = seal_where (c.rewritten || c.sealed) c
 
+-- `asm` takes the text of a module, and writes its image.
+abbrev pub asm_by : List ℕ → Option AsmError → Result Output Refusal
+asm_by text (Some e) = Err (BadText e)
+asm_by text None = Ok (Assembles text)
+
+-- `source` takes an image that no rewriter made and whose code is not refused, and writes its canonical text.
+abbrev pub source_with : Contents → Option CodeError → Result Output Refusal
+source_with c (Some e) = Err (BadCode e)
+source_with c None = Ok (Says (source_of c))
+
+abbrev pub source_where : Bool → Contents → Result Output Refusal
+source_where true c = Err IsAlready
+source_where false c = source_with c (refusal c.code (marks_of c) c.sealed)
+
+abbrev pub source_by : Result Contents ImageError → Result Output Refusal
+source_by (Err e) = Err (BadImage e)
+source_by (Ok c) = source_where c.rewritten c
+
 -- A tool makes this of the bytes of its file: it writes an output, or refuses the file.
 abbrev pub IsMadeBy : Tool → List ℕ → Result Output Refusal → Type 0
 IsMadeBy tools.Listing file made = IsListBy (image_of file) made
 IsMadeBy tools.Upgrade file made = made ≡ upgrade_by (image_of file)
 IsMadeBy tools.Seal file made = made ≡ seal_by (image_of file)
 IsMadeBy tools.Verdict file made = IsVerdictBy (image_of file) made
+IsMadeBy tools.Assembly file made = made ≡ asm_by file (refusal_of file)
+IsMadeBy tools.Source file made = made ≡ source_by (image_of file)
 
 -- The status and the whole output that tell what was made.
 abbrev pub Tells : Result Output Refusal → Status → List ℕ → Type 0

@@ -14,6 +14,7 @@
 #![tactic(auto)]
 
 mod answer;
+mod assembling;
 mod certain;
 mod given;
 mod judging;

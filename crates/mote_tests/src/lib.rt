@@ -3,6 +3,7 @@
 //! - `rows`: runs and listings of `mote_sim`'s top call, with their faults and limits.
 //! - `words`: which words of the command line are a command, and its options.
 //! - `images`: images that the top call writes by `upgrade` and `seal`.
+//! - `modules`: modules as text, and the text of an image.
 //! - `verdicts`: verdicts on rewritten images, and their listings.
 //! - `turns`: turns of a mote of `mote_core` under small limits.
 //! - `scripts`: the events of a script of `event_script`, and what refuses it.
@@ -14,6 +15,8 @@
 mod images;
 #[cfg(test)]
 mod lines;
+#[cfg(test)]
+mod modules;
 #[cfg(test)]
 mod rows;
 #[cfg(test)]
