@@ -2,11 +2,9 @@
 #![tactic(auto)]
 
 #[cfg(test)]
-<<<<<<< HEAD
 mod bundles;
-=======
+#[cfg(test)]
 mod assembler;
->>>>>>> f628e1ec940c0e5f49be1c85eb3432c4b7887117
 #[cfg(test)]
 mod image;
 #[cfg(test)]

@@ -3,15 +3,11 @@
 //! - `rows`: runs and listings of `mote_sim`'s top call, with their faults and limits.
 //! - `words`: which words of the command line are a command, and its options.
 //! - `images`: images that the top call writes by `upgrade` and `seal`.
-<<<<<<< HEAD
 //! - `turns`: turns of a mote of `mote_core` under small limits, by two runners.
 //! - `units`: runs of modules with units and kernel calls of each kind, by the top call and by both runners.
 //! - `scribble`: a second runner, which leaves other values in every byte that a unit leaves open.
-=======
 //! - `modules`: modules as text, and the text of an image.
 //! - `verdicts`: verdicts on rewritten images, and their listings.
-//! - `turns`: turns of a mote of `mote_core` under small limits.
->>>>>>> 268b70f85dda2d60138a3226cecaa9ebb964a135
 //! - `scripts`: the events of a script of `event_script`, and what refuses it.
 //! - `traces`: the text of each line of a trace of `trace_text`.
 //! - `lines`: the lines that `domain_model` keeps of a turn.
@@ -36,10 +32,8 @@ mod traces;
 #[cfg(test)]
 mod turns;
 #[cfg(test)]
-<<<<<<< HEAD
 mod units;
-=======
+#[cfg(test)]
 mod verdicts;
->>>>>>> 268b70f85dda2d60138a3226cecaa9ebb964a135
 #[cfg(test)]
 mod words;
