@@ -1,4 +1,3 @@
-use Rattle.std.proofs.Common.{◌∙◌}
 use Rattle.domain_model.proofs.StartLaws.{begins_good}
 use Rattle.domain_model.specs.Loader.{loader_events}
 use Rattle.mote_core.proofs.mote.Mote.new.Goals as goal
