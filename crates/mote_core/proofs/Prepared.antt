@@ -1,9 +1,9 @@
 -- A module whose units are proper and built can be loaded.
-use Rattle.std.proofs.Common.{◌≡◌, ℕ, suc, ◌+◌, ◌^◌, ◌<◌, ◌≤◌, List, [], ◌∷◌, length, drop, slice_index, Bool, true, None, refl, ap, subst, arith}
+use Rattle.std.proofs.Common.{◌≡◌, ℕ, suc, ◌+◌, ◌^◌, ◌<◌, ◌≤◌, List, [], ◌∷◌, length, drop, slice_index, Bool, true, Option, None, refl, sym, ◌∙◌, ap, subst, arith}
 use Rattle.std.specs.List.{AllByRecursion, filter_map}
 use Rattle.std.proofs.Math.ListN.{length-map}
 use Rattle.unit_code.specs.declared.unit.Unit.{Unit}
-use Rattle.unit_code.specs.Listing.{Listing}
+use Rattle.unit_code.specs.Listing.{BankListing, Listing}
 use Rattle.unit_code.specs.Proper.{IsProper}
 use Rattle.unit_code.specs.Targets.{AreFirstWords, number_of}
 use Rattle.harbor_spell.proofs.OneSpelling.{starts_count}
@@ -15,12 +15,12 @@ use Rattle.harbor_verify.proofs.NoRefusal.{no_refusal_spells}
 use Rattle.harbor_verify.proofs.NthForm.{first_words}
 use Rattle.module_image.specs.Contents.{Contents, FaceRules}
 use Rattle.domain_model.specs.Units.{are_built}
-use Rattle.domain_model.specs.Prepared.{marks_of, module_of}
+use Rattle.domain_model.specs.Prepared.{Prep, marks_of, module_of, prepared_units, prepared_words, spelled}
 use Rattle.domain_model.specs.Files.{BeginAt}
 use Rattle.domain_model.specs.Good.{GoodImage}
 use Rattle.domain_model.proofs.FileLaws.{starts_begin}
 use Rattle.domain_model.proofs.UnitLaws.{proper_built}
-use Rattle.mote_core.specs.Listed.{AreNumbersOf}
+use Rattle.mote_core.specs.Listed.{AreNumbersOf, listing_of}
 
 -- the first mark is the handler's, and the others are those of the functions
 first_is_below : (bound : ℕ) (marks : List ℕ) → 0 < length marks → AllByRecursion (λ n. n < bound) marks → slice_index marks 0 < bound
@@ -85,5 +85,26 @@ words_read words marks sealed small none =
       };
     }
 
-pub starts_rise : (words starts : List ℕ) → length words ≤ 65535 → AllByRecursion (λ w. w < 2 ^ 16) words → IsAccepted words starts → AreFirstWords starts
-starts_rise words starts few small accepted = first_words words starts (accepted_parts words starts few small accepted)
+pub starts_rise : (words starts places : List ℕ) → length words ≤ 65535 → AllByRecursion (λ w. w < 2 ^ 16) words → IsAccepted words starts → places ≡ starts → AreFirstWords places
+starts_rise words starts places few small accepted is =
+    subst AreFirstWords (sym is) (first_words words starts (accepted_parts words starts few small accepted))
+
+pub spelled_proper : (words marks : List ℕ) (sealed : Bool) (units : List Unit) → AllByRecursion (λ w. w < 2 ^ 16) words → verify_refusal words marks sealed ≡ None → units ≡ units_in words → IsProper units sealed
+spelled_proper words marks sealed units small none is =
+    let P : List Unit → Type 0 = λ us. IsProper us sealed in
+    subst P (sym is) (words_read words marks sealed small none).proper
+
+pub spelled_numbers : (words marks starts numbers : List ℕ) (sealed : Bool) (units : List Unit) → AllByRecursion (λ w. w < 2 ^ 16) words → verify_refusal words marks sealed ≡ None → units ≡ units_in words → starts ≡ starts_in words → numbers ≡ filter_map (number_of starts) marks → AreNumbersOf numbers units marks
+spelled_numbers words marks starts numbers sealed units small none is are numbered =
+    let P : List Unit → Type 0 = λ us. AreNumbersOf numbers us marks in
+    let Q : List ℕ → Type 0 = λ ns. AreNumbersOf ns (units_in words) marks in
+    subst P (sym is) (subst Q (sym (numbered ∙ ap (λ l. filter_map (number_of l) marks) are)) (words_read words marks sealed small none).numbers)
+
+pub spelled_prepared : (c : Contents) (code : BankListing) (starts numbers : List ℕ) (p : Option Prep) → verify_refusal c.code (marks_of c) c.sealed ≡ None → code.units ≡ units_in c.code → code.starts ≡ starts → starts ≡ starts_in c.code → numbers ≡ filter_map (number_of starts) (marks_of c) → p ≡ prepared_units c (listing_of code numbers) → p ≡ prepared_words c (verify_refusal c.code (marks_of c) c.sealed)
+unfolding spelled
+spelled_prepared c code starts numbers p none units kept are numbered is =
+    let marks : numbers ≡ filter_map (number_of (starts_in c.code)) (marks_of c) = numbered ∙ ap (λ l. filter_map (number_of l) (marks_of c)) are in
+    let same : listing_of code numbers ≡ spelled c.code (marks_of c) = cc in
+    is ∙ ap (prepared_units c) same ∙ sym (ap (prepared_words c) none)
+
+pub ruleset spelled_words = (starts_rise)

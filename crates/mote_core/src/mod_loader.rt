@@ -1,11 +1,13 @@
 //! Images, prepared for their load.
-ghost use Rattle.std.specs.Prelude.{◌≡◌, ◌≤◌, ◌+◌, IfOk, MatchOption, None, Some, is_some, length};
+ghost use Rattle.std.specs.Prelude.{◌≡◌, ◌≤◌, ◌<◌, ◌+◌, ◌^◌, IfOk, MatchOption, None, Some, is_some, length};
 ghost use Rattle.mote_layout.specs.Limits.{provided_limit};
-ghost use Rattle.std.specs.List.{filter_map};
+ghost use Rattle.std.specs.List.{AllByRecursion, filter_map};
 ghost use Rattle.unit_code.specs.Proper.{IsProper};
 ghost use Rattle.unit_code.specs.Targets.{AreFirstWords, number_of};
 ghost use Rattle.unit_code.specs.Units.{refusal};
+ghost use Rattle.harbor_verify.specs.Parts.{IsAccepted};
 ghost use Rattle.harbor_verify.specs.Verdict.{refusal as verify_refusal};
+ghost use Rattle.harbor_verify.specs.Walks.{starts_in};
 ghost use Rattle.mote_core.specs.Listed.{AreNumbersOf, listing_of};
 ghost use Rattle.module_image.specs.Contents.{FaceRules};
 ghost use Rattle.domain_model.specs.Prepared.{is_unbuilt, marks_of, module_of, prepared, prepared_code, prepared_contents, prepared_units, prepared_words};
@@ -17,7 +19,7 @@ use domain_model::Refusal;
 use harbor_rewrite::bank_code;
 use harbor_verify::{Starts, read_units, verify};
 use module_image::{Face, ImageView, SECOND_VERSION, parse};
-use mote_base::NoMemory;
+use mote_base::{NoMemory, Words};
 use mote_layout::PROVIDED;
 use std::alloc::Global;
 use std::marker::Model;
@@ -197,12 +199,34 @@ fn prepared_words(
     let code = image.code();
     let mut starts = Starts::new(alloc)?;
     match verify(&code, marks.as_slice(), image.sealed(), &mut starts) {
-        Ok(_) => {
-            let numbers = numbers_at(alloc, starts.as_slice(), marks.as_slice())?;
-            Ok(prepared_units(image, read_units(alloc, &code, &starts)?, &numbers))
-        }
+        Ok(_) => prepared_starts(alloc, image, &code, marks.as_slice(), &starts),
         Err(error) => Ok(Some(Err(Refusal::Verify(error)))),
     }
+}
+
+// Prepares an image whose words were accepted, with these starts.
+#[tactic(auto, using(crate::proofs::Prepared::spelled_words))]
+fn prepared_starts(
+    alloc: Global,
+    image: &ImageView<'_>,
+    code: &Words<'_>,
+    marks: &[u16],
+    starts: &Starts,
+) -> Result<Option<Result<Loadable, Refusal>>, NoMemory>
+    requires face { FaceRules image.now.face }
+    requires small { AllByRecursion (λ w. w < 2 ^ 16) code.now }
+    requires few { length code.now ≤ 65535 }
+    requires code { code.now ≡ image.now.code }
+    requires marks { marks.now ≡ marks_of image.now }
+    requires accepted { IsAccepted code.now starts.now }
+    requires none { verify_refusal code.now marks.now image.now.sealed ≡ None }
+    requires starts { starts.now ≡ starts_in code.now }
+    ensures prepared { IfOk result (λ p. p ≡ prepared_words image.now (verify_refusal image.now.code (marks_of image.now) image.now.sealed)) }
+    ensures good { IfOk result (λ p. IsGoodImage p) }
+{
+    let numbers = numbers_at(alloc, starts.as_slice(), marks)?;
+    let bank = read_units(alloc, code, starts)?;
+    Ok(prepared_units(image, bank, &numbers))
 }
 
 // The numbers of the units whose templates start at the marks.

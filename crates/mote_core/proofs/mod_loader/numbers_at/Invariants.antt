@@ -5,4 +5,4 @@ use Rattle.mote_core.proofs.mod_loader.numbers_at.Given as goal
 
 -- the numbers so far, and those of what is left
 abbrev pub invariant-loop-mark : goal.invariant-loop-mark
-invariant-loop-mark l = l.numbers.items ++ filter_map (number_of l.places) (drop l.mark-index l.marks) ≡ filter_map (number_of l.places) l.marks
+invariant-loop-mark l = l.numbers.items ++ filter_map (number_of l.starts) (drop l.mark-index l.marks) ≡ filter_map (number_of l.starts) l.marks
