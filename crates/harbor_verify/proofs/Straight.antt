@@ -1,6 +1,6 @@
 -- Words that spell units have no refusal.
 use Rattle.std.proofs.Common.{◌≡◌, ◌∙◌, ℕ, ◌+◌, ◌≤◌, ◌<◌, ◌==◌, cond, ltb, min, not, Bool, true, false, List, [], ◌∷◌, length, get_or, Option, Some, None, is_some, refl, sym, ap, ap₂, subst, arith}
-use Rattle.std.specs.Prelude.{option_map, IfOk, Result, Ok, Err}
+use Rattle.std.specs.Prelude.{option_map, IfErr, IfOk, MatchResult, Result, Ok, Err}
 use Rattle.std.specs.List.{AllByRecursion, Contains}
 use Rattle.std.proofs.lemmas.Option.{none-some}
 use Rattle.std.proofs.lemmas.Bool.{eq-eqb, le-ltb}
@@ -34,7 +34,7 @@ use Rattle.harbor_verify.specs.Words.{instructions}
 use Rattle.harbor_verify.proofs.Chain.{by_targets, past_templates}
 use Rattle.harbor_verify.proofs.Converse.{free_words, templates_free, templates_walked, words_read}
 use Rattle.harbor_verify.proofs.NthForm.{first_words}
-use Rattle.harbor_verify.proofs.NoRefusal.{AreParted, are_parted, lays, units_resolve}
+use Rattle.harbor_verify.proofs.NoRefusal.{AreParted, are_parted, lays, no_refusal_spells, units_resolve}
 
 module _ (starts : List ℕ) (first : AreFirstWords starts) where
   there : (place t : ℕ) → t < length starts → leads starts place (offset_to place (start_of starts t)) ≡ true
@@ -188,3 +188,23 @@ module _ (sealed : Bool) where
       → IfOk r (λ count. Spells words marks sealed (units_in words) told × (count ≡ length told)) → IfOk r (λ count. IsAccepted words told)
   accepted_told words marks told (Ok count) h = record { sealed = sealed; marks = marks; units = units_in words; spells = h.0 }
   accepted_told words marks told (Err e) h = tt
+
+  pub value_told : (words marks told : List ℕ) (r : Result ℕ VerifyError)
+      → IfOk r (λ count. Spells words marks sealed (units_in words) told × (count ≡ length told))
+      → IfOk r (λ count. (refusal words marks sealed ≡ None) × (told ≡ starts_in words))
+      → IfErr r (λ e. refusal words marks sealed ≡ Some e)
+      → MatchResult r (λ count. (refusal words marks sealed ≡ None) × (told ≡ starts_in words) × (count ≡ length (units_in words)))
+      (λ e. refusal words marks sealed ≡ Some e)
+  value_told words marks told (Ok count) h k err =
+      let lays = h.0.lays in
+      (k.0, k.1, h.1 ∙ starts_count words sealed lays.0 (units_in words) told lays.1)
+  value_told words marks told (Err e) h k err = err
+
+  -- the words' verdict as functions of them
+  pub judged : (words marks : List ℕ) → length words ≤ 65535 → Words16 words → (us : List Unit) (starts : List ℕ) → Spells words marks sealed us starts
+      → (refusal words marks sealed ≡ None) × (units_in words ≡ us) × (starts_in words ≡ starts)
+  judged words marks few small us starts h =
+      let none = spells_no_refusal words marks us starts few small h in
+      let spelled = no_refusal_spells sealed words marks small none in
+      let same = one_laying words sealed (units_in words) us (starts_in words) starts small spelled.lays h.lays in
+      (none, same.0, same.1)

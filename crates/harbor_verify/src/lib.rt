@@ -10,6 +10,7 @@ mod ends;
 mod error;
 mod forms;
 mod instructions;
+mod laws;
 mod lengths;
 mod opening;
 mod reading;
@@ -18,6 +19,7 @@ mod verifying;
 mod walks;
 
 pub use error::VerifyError;
+pub use laws::words_are_judged;
 pub use reading::read_units;
 pub use starts::Starts;
 pub use verifying::verify;

@@ -21,6 +21,7 @@ pub fn read_units(alloc: Global, code: &Words<'_>, starts: &Starts) -> Result<Ba
     requires accepted { IsAccepted code.now starts.now }
     ensures units { IfOk result (λ bank. (marks : List ℕ) (sealed : Bool) (units : List Unit)
         → Spells code.now marks sealed units starts.now → bank.units ≡ units) }
+    ensures value { IfOk result (λ bank. bank.units ≡ units_in code.now) }
     ensures same { IfOk result (λ bank. (bank.words ≡ code.now) × (bank.starts ≡ starts.now)) }
 {
     // what tells the length tells that words are of 16 bits

@@ -1,12 +1,13 @@
 //! The verifier.
 
-ghost use Rattle.std.specs.Prelude.{◌≡◌, ◌^◌, ◌<◌, ◌≤◌, ℕ, List, length, IfOk, IfErr, IsOkAnd, Some};
+ghost use Rattle.std.specs.Prelude.{◌≡◌, ◌^◌, ◌<◌, ◌≤◌, ℕ, List, length, IfOk, IfErr, IsOkAnd, MatchResult, None, Some};
 ghost use Rattle.std.specs.List.{AllByRecursion};
 ghost use Rattle.unit_code.specs.declared.unit.Unit.{Unit};
 ghost use Rattle.unit_code.specs.Spelling.{Spells};
 ghost use Rattle.harbor_verify.specs.Law.{IsFirst};
 ghost use Rattle.harbor_verify.specs.Parts.{ArePartsOf, IsAccepted};
 ghost use Rattle.harbor_verify.specs.Verdict.{refusal, refusal_of_parts, units_in};
+ghost use Rattle.harbor_verify.specs.Walks.{starts_in};
 
 use crate::aims::first_astray;
 use crate::ends::{refusal_of_units, stray_mark};
@@ -36,6 +37,12 @@ pub fn verify(
 
     // The refusal is the first condition that holds, at its least word.
     ensures first { IfErr result (λ e. IsFirst code.now marks.now sealed e) }
+
+    // The same as functions of the words.
+    ensures value { MatchResult result
+        (λ count. (refusal code.now marks.now sealed ≡ None) × (starts.new ≡ starts_in code.now)
+        × (count ≡ length (units_in code.now)))
+        (λ e. refusal code.now marks.now sealed ≡ Some e) }
 {
     // what tells the length tells that words are of 16 bits
     let _count = code.len();
@@ -52,6 +59,7 @@ fn verdict(
     requires small { AllByRecursion (λ w. w < 2 ^ 16) code.now }
     ensures ok { IfOk result (λ count. Spells code.now marks.now sealed (units_in code.now) starts.new
         × (count ≡ length starts.new)) }
+    ensures none { IfOk result (λ _. (refusal code.now marks.now sealed ≡ None) × (starts.new ≡ starts_in code.now)) }
     ensures err { IfErr result (λ e. refusal code.now marks.now sealed ≡ Some e) }
     ensures only { (units : List Unit) (places : List ℕ) → Spells code.now marks.now sealed units places
         → IsOkAnd result (λ count. (count ≡ length units) × (starts.new ≡ places)) }

@@ -8,6 +8,12 @@ mod image;
 #[cfg(test)]
 mod lines;
 #[cfg(test)]
+mod rewritten;
+#[cfg(test)]
+mod short;
+#[cfg(test)]
+mod spelled;
+#[cfg(test)]
 mod units;
 #[cfg(test)]
 mod verified;

@@ -78,3 +78,11 @@ returns-clause-ok c =
     ∙ sym c.refusal_of_parts.ensures ∙ none_from _ c.in_default-refusal_of_parts.not-Some in
     let P : List ℕ → Type 0 = λ l. Spells c.args.code.now c.args.marks.now c.args.sealed (units_in c.args.code.now) l in
     (subst P (sym c.in_default-read_starts.ensures.starts) (no_refusal_spells c.args.sealed c.args.code.now c.args.marks.now c.requires.small none), ap length c.as_slice-2.ensures)
+
+pub returns-clause-none : goal.returns-clause-none
+returns-clause-none c = (
+  past_templates c.args.sealed c.args.code.now c.args.marks.now (sym c.first_barred.ensures ∙ none_from _ c.in_default.not-Some)
+      (sym c.read_starts.ensures.stuck ∙ none_from _ c.in_default-read_starts.not-Some)
+      ∙ sym c.refusal_of_parts.ensures ∙ none_from _ c.in_default-refusal_of_parts.not-Some,
+  c.in_default-read_starts.ensures.starts,
+)
