@@ -10,7 +10,7 @@ use Rattle.unit_code.specs.Targets.{number_of}
 use Rattle.unit_code.specs.Units.{listed, places_of, refusal, units_of}
 use Rattle.unit_code.proofs.Entered.{marks_numbered}
 use Rattle.unit_code.proofs.ProperUnits.{no_refusal}
-use Rattle.avr_asm.specs.Line.{Line, Module, line_text, ended}
+use Rattle.avr_asm.specs.Line.{Module, line_text}
 use Rattle.avr_asm.specs.Source.{source_of, text_of, lines_with}
 use Rattle.domain_model.specs.Prepared.{marks_of}
 

@@ -220,7 +220,10 @@ fn answer<F: Shelf, K: Sink>(alloc: Global, words: &[Word], shelf: &mut F, out: 
 /// it loads and unloads, and writes the trace; `--units N` limits the units of the run, and `--handler H` those of one
 /// handler, beyond which the watchdog stops it. `list IMAGE` writes the units of an image, a line for each.
 /// `upgrade IMAGE` writes the file of an image of the first version in the second, and `seal IMAGE` that of an image
-/// which is neither rewritten nor sealed, sealed. All memory is taken before the first byte is written.
+/// which is neither rewritten nor sealed, sealed. `rewrite IMAGE` writes an original image with each store, stack change
+/// and call of its code checked, and `verify IMAGE` says how many units the words of such an image spell. `asm TEXT` writes
+/// the image of a module's text, and `source IMAGE` the text of an original image. All memory is taken before the first
+/// byte is written.
 pub fn mote_main<F: Shelf, K: Sink>(
     alloc: Global,
     words: &[Word],

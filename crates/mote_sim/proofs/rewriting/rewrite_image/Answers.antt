@@ -1,4 +1,4 @@
-use Rattle.std.proofs.Common.{◌≡◌, ◌∙◌, sym, subst}
+use Rattle.std.proofs.Common.{◌∙◌, sym, subst}
 use Rattle.harbor_rewrite.specs.Rewritten.{IsRewritten, SpellsOriginal}
 use Rattle.mote_sim.specs.Tools.{Tells, rewrite_where, rewrite_with}
 use Rattle.mote_sim.proofs.Ends.{ends_as}
