@@ -5,12 +5,10 @@ use mote_base::{MemSink, Status};
 use std::test::Fail;
 
 /// Module 1 says byte 65, as `rows` has it before it was rewritten: E481 940E F108 940C F096.
-const SAYS: &[u8] =
-    b"SOSM\x01\x01\x01\0\0\0\0\0\0\x05\0\x81\xE4\x0E\x94\x08\xF1\x0C\x94\x96\xF0";
+const SAYS: &[u8] = b"SOSM\x01\x01\x01\0\0\0\0\0\0\x05\0\x81\xE4\x0E\x94\x08\xF1\x0C\x94\x96\xF0";
 
 /// Module 2 stores through X, outside its state: 940E F000 930C 940C F096.
-const STRAYS: &[u8] =
-    b"SOSM\x01\x02\x01\0\0\0\0\0\0\x05\0\x0E\x94\0\xF0\x0C\x93\x0C\x94\x96\xF0";
+const STRAYS: &[u8] = b"SOSM\x01\x02\x01\0\0\0\0\0\0\x05\0\x0E\x94\0\xF0\x0C\x93\x0C\x94\x96\xF0";
 
 /// The same module, with the word of its handler inside the store's template.
 const ENTERS_INSIDE: &[u8] =
