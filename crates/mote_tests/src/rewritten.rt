@@ -22,8 +22,11 @@ const RETURNS: &[u8] =
 const JUMPS_PAST: &[u8] =
     b"SOSM\x01\x01\x01\0\0\0\0\0\0\x06\0\x02\xC0\x0E\x94\0\xF0\x0C\x93\x0C\x94\x96\xF0";
 
-/// Module 1 returns by an instruction that stands in no template: 9508.
-const BARE: &[u8] = b"SOSM\x01\x01\x01\0\0\0\0\0\0\x01\0\x08\x95";
+/// Module 1 stores without a guard: 930C 940C F096.
+const BARE: &[u8] = b"SOSM\x01\x01\x01\0\0\0\0\0\0\x03\0\x0C\x93\x0C\x94\x96\xF0";
+
+/// Module 1 jumps to no entry of the page: 940C F097.
+const LEAVES: &[u8] = b"SOSM\x01\x01\x01\0\0\0\0\0\0\x02\0\x0C\x94\x97\xF0";
 
 /// A module that is loaded at time 0, and the trace of its run.
 struct Row {
@@ -54,6 +57,10 @@ const ROWS: &[Row] = &[
     },
     Row {
         image: BARE,
+        text: "0 refused 0 3 2 0 0\n0 end idle\n",
+    },
+    Row {
+        image: LEAVES,
         text: "0 refused 0 3 1 0 0\n0 end idle\n",
     },
 ];
