@@ -17,3 +17,4 @@ pub mod Canons
 pub mod Uniques
 pub mod Texted
 pub mod Again
+pub mod Assembled
