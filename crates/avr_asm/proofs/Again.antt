@@ -98,16 +98,16 @@ far_false a b h = elim (cases_lt a b) as (λ z. is_far a b ≡ false) [
       or_from (nat_lt (b + 64) (a + 1)) _ (le-ltb (b + 64) (a + 1) (omega (arith, p, top))) (le-ltb (a + 64) b (omega (arith, p)))) ]
 
 -- what a unit's own instructions say of its target
-abbrev Near : List ℕ → ℕ → Unit → Type 0
+abbrev pub Near : List ℕ → ℕ → Unit → Type 0
 Near firsts place (unit.Branch set bit t) = IsBranchOffset (offset_to place (slice_index firsts t))
 Near firsts place (unit.LocalCall t) = slice_index firsts t ≢ place + 1
 Near firsts place _ = ⊤
 
-abbrev AreNear : List ℕ → ℕ → List Unit → Type 0
+abbrev pub AreNear : List ℕ → ℕ → List Unit → Type 0
 AreNear firsts place [] = ⊤
 AreNear firsts place (u ∷ us) = Near firsts place u × AreNear firsts (place + unit_words u) us
 
-abbrev AreSmall : List ℕ → Type 0
+abbrev pub AreSmall : List ℕ → Type 0
 AreSmall ws = AllByRecursion (λ word. word < 2 ^ 16) ws
 
 alone : (i : Instr) (ws rest : List ℕ) → AreSmall ws → BeginWith (i ∷ []) ws rest → IsEncodable i
@@ -201,7 +201,7 @@ next_place : (place : ℕ) (us : List Unit) → 0 < length us → slice_index (p
 next_place place [] h = absurd (omega (arith, h))
 next_place place (u ∷ us) h = refl
 
-unit_good : (all : List Row) (firsts : List ℕ) (total k place : ℕ) (u : Unit) (us : List Unit) → total ≤ bank_words → total ≡ k + suc (length us) → LeadsBelow total u → Near firsts place u
+pub unit_good : (all : List Row) (firsts : List ℕ) (total k place : ℕ) (u : Unit) (us : List Unit) → total ≤ bank_words → total ≡ k + suc (length us) → LeadsBelow total u → Near firsts place u
     → ((t : ℕ) → t < total → place_in (row_of all t) ≡ slice_index firsts t) → ((j : ℕ) → j < suc (length us) → slice_index (places_from place (u ∷ us)) j ≡ slice_index firsts (k + j)) → Good all total k place (Item (bare u) (aim u))
 unit_good all firsts total k place (unit.Branch set bit t) us few size low n at own = aimed_good all total k place (unit.Branch set bit 0) t (omega (arith, low, few)) low (ap (is_far place) (at t low) ∙ far_false place (slice_index firsts t) n)
 unit_good all firsts total k place (unit.Jump t) us few size low n at own = aimed_good all total k place (unit.Jump 0) t (omega (arith, low, few)) low refl

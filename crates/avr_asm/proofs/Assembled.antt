@@ -1,9 +1,6 @@
 -- The source of an original image is assembled to that image.
-use Rattle.std.specs.Prelude.{◌≡◌, ℕ, List, ◌+◌, ◌≤◌, ◌<◌, [], ◌∷◌, suc, length, slice_index}
-use Rattle.std.specs.List.{AllByRecursion}
 use Rattle.avr_asm.specs.Laws.{ImageIsAssembled}
-use Rattle.avr_asm.proofs.Texted.{Gathers}
-use Rattle.avr_asm.proofs.Again.{AllGood, unit_good}
+use Rattle.avr_asm.proofs.Reread.{all_good, pairs_again, units_good, whole_gather}
 
 pub image_is_assembled : ImageIsAssembled
 image_is_assembled = ?

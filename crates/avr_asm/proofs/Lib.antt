@@ -17,4 +17,5 @@ pub mod Canons
 pub mod Uniques
 pub mod Texted
 pub mod Again
+pub mod Reread
 pub mod Assembled
