@@ -72,20 +72,20 @@ prototype_from : (proto : List ℕ) → IsPrototype proto → is_prototype proto
 prototype_from (a ∷ b ∷ c ∷ d ∷ []) h = and_from (is_printable a) _ (printable_from a h.0) (and_from (is_printable b) _ (printable_from b h.1) (and_from (is_printable c) _ (printable_from c h.2) (printable_from d h.3)))
 prototype_from _ h = absurd h
 
-seal_rules : (sealed : Bool) (ls : List Line) → AllByRecursion Rules ls → AllByRecursion Rules (seal_lines sealed ++ ls)
+pub seal_rules : (sealed : Bool) (ls : List Line) → AllByRecursion Rules ls → AllByRecursion Rules (seal_lines sealed ++ ls)
 seal_rules true ls h = (tt, h)
 seal_rules false ls h = h
 
-provided_rules : (least : ℕ) (ps : List Provided) (ns : List ℕ) (ls : List Line) → AreProvided least ps → AllByRecursion (λ n. n < 2 ^ 16) ns → AllByRecursion Rules ls → AllByRecursion Rules (provided_lines ps ns ++ ls)
+pub provided_rules : (least : ℕ) (ps : List Provided) (ns : List ℕ) (ls : List Line) → AreProvided least ps → AllByRecursion (λ n. n < 2 ^ 16) ns → AllByRecursion Rules ls → AllByRecursion Rules (provided_lines ps ns ++ ls)
 provided_rules least [] ns ls h low r = r
 provided_rules least (p ∷ ps) [] ls h low r = r
 provided_rules least (p ∷ ps) (n ∷ ns) ls h low r = ((omega (arith, h.1), prototype_from p.proto h.2, goal_decimal n low.0), provided_rules (p.func + 1) ps ns ls h.4 low.1 r)
 
-subscribed_rules : (ss : List Subscribed) (ls : List Line) → AllByRecursion IsSubscribed ss → AllByRecursion Rules ls → AllByRecursion Rules (subscribed_lines ss ++ ls)
+pub subscribed_rules : (ss : List Subscribed) (ls : List Line) → AllByRecursion IsSubscribed ss → AllByRecursion Rules ls → AllByRecursion Rules (subscribed_lines ss ++ ls)
 subscribed_rules [] ls h r = r
 subscribed_rules (s ∷ ss) ls h r = ((h.0.0, omega (arith, h.0.1), prototype_from s.proto h.0.2), subscribed_rules ss ls h.1 r)
 
-constant_rules : (cs : List ℕ) (ls : List Line) → AreBytes cs → length cs ≤ constants_limit → AllByRecursion Rules ls → AllByRecursion Rules (constant_lines cs ++ ls)
+pub constant_rules : (cs : List ℕ) (ls : List Line) → AreBytes cs → length cs ≤ constants_limit → AllByRecursion Rules ls → AllByRecursion Rules (constant_lines cs ++ ls)
 constant_rules [] ls h few r = r
 constant_rules (c ∷ cs) ls h few r = let size = pairs_length (c ∷ cs) in ((pairs_even (c ∷ cs) h, omega (arith, size), omega (arith, size, few)), r)
 
