@@ -233,13 +233,19 @@ bytes_behind (x ∷ xs) ys h = bytes_behind xs ys h.1
 
 constants_low : (bytes : List ℕ) (c : Contents) → AreBytes bytes → Image bytes c → AreBytes c.constants
 constants_low bytes c h i =
-    bytes_behind (flat_map word c.code) _
-    (bytes_behind (flat_map subscribed_entry c.face.subscribed.items) _
-    (bytes_behind (flat_map provided_entry c.face.provided.items) _
-    (bytes_behind (constant_count c.version (length c.constants)) _
-    (bytes_behind (counts (length c.face.provided.items) (length c.face.subscribed.items) (length c.code)) _
-    (bytes_behind (settings c.face.id (flags c.rewritten c.sealed) c.state_size c.handler) _
-    (bytes_behind (opening c.version) _ (subst AreBytes i.spelled h)))))))
+    let words : List ℕ = flat_map word c.code ++ c.constants in
+    let taken : List ℕ = flat_map subscribed_entry c.face.subscribed.items ++ words in
+    let given : List ℕ = flat_map provided_entry c.face.provided.items ++ taken in
+    let counted : List ℕ = constant_count c.version (length c.constants) ++ given in
+    let sizes : List ℕ = counts (length c.face.provided.items) (length c.face.subscribed.items) (length c.code) ++ counted in
+    let set : List ℕ = settings c.face.id (flags c.rewritten c.sealed) c.state_size c.handler ++ sizes in
+    bytes_behind (flat_map word c.code) c.constants
+    (bytes_behind (flat_map subscribed_entry c.face.subscribed.items) words
+    (bytes_behind (flat_map provided_entry c.face.provided.items) taken
+    (bytes_behind (constant_count c.version (length c.constants)) given
+    (bytes_behind (counts (length c.face.provided.items) (length c.face.subscribed.items) (length c.code)) counted
+    (bytes_behind (settings c.face.id (flags c.rewritten c.sealed) c.state_size c.handler) sizes
+    (bytes_behind (opening c.version) set (subst AreBytes i.spelled h)))))))
 
 -- The text of these lines is assembled to the bytes.
 abbrev IsAgain : List ℕ → List Line → Type 0
