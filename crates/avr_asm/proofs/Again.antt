@@ -1,33 +1,29 @@
 -- The source of an original image is assembled to that image.
-use Rattle.std.specs.Prelude.{◌≡◌, ◌≢◌, ◌⊎◌, ℕ, zero, suc, ◌+◌, ◌-◌, ◌*◌, ◌^◌, ◌<◌, ◌≤◌, ◌==◌, ◌&&◌, ◌||◌, not, nat_le, nat_lt, Bool, true, false, List, [], ◌∷◌, ◌++◌, length, map, slice_index, sum_by, Option, Some, None, Ok, is_none, option_map, codes, decimal, ⊤, pos, negsuc}
+use Rattle.std.specs.Prelude.{◌≡◌, ◌≢◌, ℕ, suc, ◌+◌, ◌-◌, ◌^◌, ◌<◌, ◌≤◌, ◌&&◌, ◌||◌, not, nat_le, nat_lt, Bool, true, false, List, [], ◌∷◌, length, slice_index, sum_by, Option, Some, None, is_none, decimal, ⊤, pos, negsuc}
 use Rattle.std.specs.List.{AllByRecursion}
-use Rattle.std.proofs.Common.{refl, sym, ◌∙◌, ap, ap₂, subst, cond, arith, append_assoc, inl, inr}
-use Rattle.std.proofs.lemmas.Bool.{and_parts, and_from, cases_lt, eqb-true, eq-eqb, ne_eqb, le-leb, le-ltb, lt-leb, lt-ltb, or_from, true≢false, cond-true, cond-false}
+use Rattle.std.proofs.Common.{refl, sym, ◌∙◌, ap, ap₂, subst, cond, arith, inl, inr}
+use Rattle.std.proofs.lemmas.Bool.{and_from, cases_lt, ne_eqb, le-ltb, lt-leb, lt-ltb, or_from, cond-true, cond-false}
 use Rattle.avr_isa.specs.declared.instruction.Instr.{Instr}
 use Rattle.avr_isa.specs.declared.instruction.Instr.TheVariants as instr
 use Rattle.avr_isa.specs.Operands.{IsBranchOffset, IsEncodable}
 use Rattle.avr_isa.proofs.TableLaws.{decoded_is_encodable}
 use Rattle.mote_layout.specs.Memory.{bank_words}
-use Rattle.mote_layout.specs.Limits.{provided_limit, subscribed_limit}
 use Rattle.unit_code.specs.declared.unit.Unit.{Unit}
 use Rattle.unit_code.specs.declared.unit.Unit.TheVariants as unit
-use Rattle.unit_code.specs.Ends.{goes_on, leaves, long_length}
+use Rattle.unit_code.specs.Ends.{goes_on}
 use Rattle.unit_code.specs.Items.{next_word}
 use Rattle.unit_code.specs.Lengths.{instruction_length}
 use Rattle.unit_code.specs.Loads.{guarded, is_load, load_where}
-use Rattle.unit_code.specs.Proper.{CanBeSkipped, IsGuardedSo, IsOfKind, IsProper, LeadsBelow, SkipsAreSound, SkipsTo, is_group_unit}
-use Rattle.unit_code.specs.Spelled.{AreEntered, AreInstructionsOf, BeginWith, IsSpelled, Spell, offset_to}
+use Rattle.unit_code.specs.Proper.{IsGuardedSo, IsOfKind, LeadsBelow, SkipsAreSound, SkipsTo}
+use Rattle.unit_code.specs.Spelled.{AreInstructionsOf, BeginWith, Spell, offset_to}
 use Rattle.unit_code.proofs.SpelledBack.{small_next}
-use Rattle.module_image.specs.declared.face.Provided.{Provided}
-use Rattle.module_image.specs.declared.face.Subscribed.{Subscribed}
 use Rattle.avr_asm.specs.declared.stage.Stage.{Stage}
-use Rattle.avr_asm.specs.Text.{is_goal}
-use Rattle.avr_asm.specs.Line.{Line, Module, Version, State, Handler, Sealed, Provides, Subscribes, Const, Code, Label, Item, HasGoal, Rules}
+use Rattle.avr_asm.specs.Line.{Line, Handler, Provides, Item, Rules}
 use Rattle.avr_asm.specs.Rows.{Row, behind, kept, place_after, unit_after, unit_words}
-use Rattle.avr_asm.specs.Refusals.{can_be_skipped, cannot_end, cannot_skip, goal_of, is_far, is_mislabelled, lacks_label, leads_astray, led, first, is_beyond, is_off, place_in, resolved, row_of, some_goal, stuck}
-use Rattle.avr_asm.specs.Assembly.{aimed, number_of, onto_units, units_in, word_of}
+use Rattle.avr_asm.specs.Refusals.{cannot_end, cannot_skip, goal_of, is_far, is_mislabelled, lacks_label, leads_astray, led, first, is_beyond, is_off, place_in, row_of, some_goal, stuck}
+use Rattle.avr_asm.specs.Assembly.{aimed}
 use Rattle.avr_asm.specs.Encoding.{places_from}
-use Rattle.avr_asm.specs.Source.{aim, bare, constant_lines, provided_lines, seal_lines, subscribed_lines, unit_lines}
+use Rattle.avr_asm.specs.Source.{aim, bare, unit_lines}
 use Rattle.avr_asm.proofs.Encoded.{own_words}
 use Rattle.avr_asm.proofs.Uniques.{begin_small}
 use Rattle.avr_asm.proofs.Sound.{AreAlike, skip_alike}
@@ -63,7 +59,7 @@ pub units_gather : (all : List Row) (sealed : Bool) (total : ℕ) (us : List Uni
 units_gather all sealed total [] few k g l = record { seals = λ n s a b. refl; provided = λ n s a b. refl; numbers = λ n s a b. refl; subscribed = λ n s a b. refl; pairs_are = λ n s a b. refl; units = λ n s a b. refl }
 units_gather all sealed total (u ∷ us) few k g l =
     subst (λ (v : Unit). Gathers all sealed (unit_lines (u ∷ us)) false [] [] [] [] (v ∷ us)) (unit_again all sealed total u few k.0 g.0 l.0)
-      (gather_step all sealed (Item (bare u) (aim u)) (unit_lines us) false [] [] [] [] us (units_gather all sealed total us few k.1 g.1 l.1))
+    (gather_step all sealed (Item (bare u) (aim u)) (unit_lines us) false [] [] [] [] us (units_gather all sealed total us few k.1 g.1 l.1))
 
 pub units_rules : (sealed : Bool) (total : ℕ) (us : List Unit) → total ≤ bank_words → AllByRecursion IsOfKind us → AllByRecursion (IsGuardedSo sealed) us → AllByRecursion (LeadsBelow total) us → AllByRecursion Rules (unit_lines us)
 units_rules sealed total [] few k g l = tt
@@ -92,10 +88,11 @@ cannot_not unit.Return us h = refl
 -- where units reach, by the words that spell them
 far_false : (a b : ℕ) → IsBranchOffset (offset_to a b) → is_far a b ≡ false
 far_false a b h = elim (cases_lt a b) as (λ z. is_far a b ≡ false) [
-    inl p ↦ (let q : IsBranchOffset (pos (b - a - 1)) = subst IsBranchOffset (cond-true (nat_lt a b) _ _ (lt-ltb a b p)) h in let top : b - a - 1 ≤ 63 = grind arith in
+  | inl p ↦ (let q : IsBranchOffset (pos (b - a - 1)) = subst IsBranchOffset (cond-true (nat_lt a b) _ _ (lt-ltb a b p)) h in let top : b - a - 1 ≤ 63 = grind arith in
       or_from (nat_lt (b + 64) (a + 1)) _ (le-ltb (b + 64) (a + 1) (omega (arith, p))) (le-ltb (a + 64) b (omega (arith, p, top))))
   | inr p ↦ (let q : IsBranchOffset (negsuc (a - b)) = subst IsBranchOffset (cond-false (nat_lt a b) _ _ (le-ltb a b p)) h in let top : a - b ≤ 63 = grind arith in
-      or_from (nat_lt (b + 64) (a + 1)) _ (le-ltb (b + 64) (a + 1) (omega (arith, p, top))) (le-ltb (a + 64) b (omega (arith, p)))) ]
+      or_from (nat_lt (b + 64) (a + 1)) _ (le-ltb (b + 64) (a + 1) (omega (arith, p, top))) (le-ltb (a + 64) b (omega (arith, p))))
+]
 
 -- what a unit's own instructions say of its target
 abbrev pub Near : List ℕ → ℕ → Unit → Type 0
@@ -103,11 +100,11 @@ Near firsts place (unit.Branch set bit t) = IsBranchOffset (offset_to place (sli
 Near firsts place (unit.LocalCall t) = slice_index firsts t ≢ place + 1
 Near firsts place _ = ⊤
 
-abbrev pub AreNear : List ℕ → ℕ → List Unit → Type 0
-AreNear firsts place [] = ⊤
-AreNear firsts place (u ∷ us) = Near firsts place u × AreNear firsts (place + unit_words u) us
+abbrev pub AllNear : List ℕ → ℕ → List Unit → Type 0
+AllNear firsts place [] = ⊤
+AllNear firsts place (u ∷ us) = Near firsts place u × AllNear firsts (place + unit_words u) us
 
-abbrev pub AreSmall : List ℕ → Type 0
+abbrev AreSmall : List ℕ → Type 0
 AreSmall ws = AllByRecursion (λ word. word < 2 ^ 16) ws
 
 alone : (i : Instr) (ws rest : List ℕ) → AreSmall ws → BeginWith (i ∷ []) ws rest → IsEncodable i
@@ -135,7 +132,7 @@ near firsts place unit.Return is ws rest p a b = tt
 
 pub record Spelt (firsts : List ℕ) (place : ℕ) (ps : List ℕ) (us : List Unit) : Type 0 where
   pub places : ps ≡ places_from place us
-  pub near : AreNear firsts place us
+  pub near : AllNear firsts place us
 
 pub spelt : (firsts : List ℕ) (place : ℕ) (ps : List ℕ) (us : List Unit) (ws : List ℕ) → AreSmall ws → Spell firsts place ps us ws → Spelt firsts place ps us
 spelt firsts place [] [] ws p h = record { places = refl; near = tt }
@@ -158,7 +155,7 @@ not_stuck long n (k ∷ []) (u ∷ v ∷ us) h s g l = absurd h.1
 not_stuck long n (k ∷ m ∷ ks) (u ∷ []) h s g l = absurd h.1
 not_stuck long n (k ∷ m ∷ ks) (u ∷ v ∷ us) h s g l =
     free_of (cannot_skip k (m ∷ ks)) false n (stuck long (suc n) (m ∷ ks)) (h.0.skips (m ∷ ks) ∙ skip_alike u (m ∷ ks) (v ∷ us) h.1 ∙ cannot_not u (v ∷ us) s.0) refl
-  ∙ not_stuck long (suc n) (m ∷ ks) (v ∷ us) h.1 s.1 g l
+    ∙ not_stuck long (suc n) (m ∷ ks) (v ∷ us) h.1 s.1 g l
 
 -- nothing is refused of a line that stands so
 pub record Good (all : List Row) (total k place : ℕ) (l : Line) : Type 0 where

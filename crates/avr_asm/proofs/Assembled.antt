@@ -1,7 +1,7 @@
 -- The source of an original image is assembled to that image.
-use Rattle.std.specs.Prelude.{◌≡◌, ◌⊎◌, ℕ, ◌+◌, ◌==◌, ◌^◌, ◌<◌, ◌≤◌, Bool, true, false, List, [], ◌∷◌, ◌++◌, length, map, slice_index, Option, Some, None, option_map, unwrap_or, decimal}
+use Rattle.std.specs.Prelude.{◌≡◌, ◌⊎◌, ℕ, ◌+◌, ◌==◌, ◌^◌, ◌<◌, ◌≤◌, Bool, false, List, [], ◌∷◌, ◌++◌, length, map, slice_index, Option, Some, None, option_map, unwrap_or, decimal}
 use Rattle.std.specs.List.{AllByRecursion, flat_map}
-use Rattle.std.proofs.Common.{refl, sym, ◌∙◌, ap, ap₂, subst, cond, arith, inl, inr}
+use Rattle.std.proofs.Common.{refl, sym, ◌∙◌, ap, ap₂, subst, arith, inl, inr}
 use Rattle.std.proofs.lemmas.Bool.{le-ltb, ne_eqb, cond-false}
 use Rattle.mote_base.specs.Digits.{pairs_text}
 use Rattle.mote_layout.specs.Memory.{bank_words}
@@ -22,16 +22,16 @@ use Rattle.avr_asm.specs.declared.error.AsmError.TheVariants as error
 use Rattle.avr_asm.specs.Text.{lines_in, pair_bytes}
 use Rattle.avr_asm.specs.Line.{Line, Code, Rules}
 use Rattle.avr_asm.specs.Rows.{Row, rows_of, start}
-use Rattle.avr_asm.specs.Refusals.{count, first, goal_of, is_mislabelled, is_misplaced, is_sealed, is_too_long, kinds_in, leads_astray, line_in, mislabelled, miscoded, misled, misplaced, place_in, refusal_of, refused, row_of, stuck_in, too_early, unless}
+use Rattle.avr_asm.specs.Refusals.{count, first, goal_of, is_mislabelled, is_misplaced, is_sealed, is_too_long, kinds_in, leads_astray, line_in, mislabelled, miscoded, misled, misplaced, place_in, refusal_of, refused, row_of, too_early, unless}
 use Rattle.avr_asm.specs.Assembly.{IsAssembled, IsImageOf, contents_of, handler_of, id_of, marks_of, number_of, numbers_of, pairs_of, places_in, provided_of, size_of, subscribed_of, units_in, version_of, word_of}
 use Rattle.avr_asm.specs.Encoding.{places_from}
-use Rattle.avr_asm.specs.Source.{constant_lines, lines_behind, lines_from, lines_with, provided_lines, source_of, subscribed_lines, text_of, unit_lines}
+use Rattle.avr_asm.specs.Source.{constant_lines, lines_behind, lines_with, provided_lines, source_of, subscribed_lines, text_of, unit_lines}
 use Rattle.avr_asm.specs.Laws.{ImageIsAssembled}
 use Rattle.avr_asm.proofs.Counts.{counted, place_is, places_are}
 use Rattle.avr_asm.proofs.Placed.{Numbered, numbered}
 use Rattle.avr_asm.proofs.Sound.{are_alike, few_units, few_words, long_alike, places_length}
 use Rattle.avr_asm.proofs.Texted.{Gathers, Walks, goal_decimal, handled, lines_of_text, opening_walk, resolved_decimal, row_list, rows_are, seal_walk, walks_placed}
-use Rattle.avr_asm.proofs.Again.{AllGood, AreNear, Spelt, none_led, none_named, not_stuck, spelt, units_gather, units_rules}
+use Rattle.avr_asm.proofs.Again.{AllGood, Spelt, none_led, none_named, not_stuck, spelt, units_gather, units_rules}
 use Rattle.avr_asm.proofs.Reread.{AreBytes, again_numbers, again_provided, all_good, constant_rules, pairs_again, provided_rules, seal_rules, subscribed_rules, units_good, whole_gather}
 
 -- Rows that are the lines' of an image, and what they hold.
@@ -215,8 +215,9 @@ none_left (c ∷ cs) h = absurd (omega (arith, h))
 
 versions : (c : Contents) → image.Rules c → ((c.version ≡ second_version) ⊎ (c.constants ≡ [])) × ((c.version ≡ second_version) ⊎ (c.sealed ≡ false))
 versions c rules = elim rules.version as (λ z. ((c.version ≡ second_version) ⊎ (c.constants ≡ [])) × ((c.version ≡ second_version) ⊎ (c.sealed ≡ false))) [
-    inl early ↦ (let p = rules.plain early in (inr (none_left c.constants p.1), inr p.0))
-  | inr late ↦ (inl late, inl late) ]
+  | inl early ↦ (let p = rules.plain early in (inr (none_left c.constants p.1), inr p.0))
+  | inr late ↦ (inl late, inl late)
+]
 
 walks_are : (c : Contents) (h : ℕ) (ns : List ℕ) (us : List Unit) → image.Rules c → Walks start (lines_with c (h ∷ ns) us)
 walks_are c h ns us rules =
@@ -268,9 +269,10 @@ again bytes c h ns us firsts small i original spelled entered proper =
     let r : Read all c h ns us = read all c h ns us (sym rows) (numbered 1 start 0 0 (lines_in (text_of ls))) (units_gather all c.sealed (length us) us few proper.kinds proper.loads proper.targets) in
     let s : Stands all c h ns us firsts = stands all c h ns us firsts r sp.places few entered in
     let good : AllGood all (length us) 0 0 ls = all_good all (length us) c h ns us few number numbers
-    (units_good all firsts (length us) 0 0 us few (omega arith) proper.targets sp.near s.at (λ j p. ap (λ (z : List ℕ). slice_index z j) (sym sp.places) ∙ ap (slice_index firsts) (sym (none_add j)))) in
-    (unrefused _ all c h ns us firsts r s (walks_are c h ns us i.rules) good proper,
-     record { contents = c; image = i; assembled = assembled all c h ns us firsts r s original low spelled entered proper })
+    (units_good all firsts (length us) 0 0 us few (omega arith) proper.targets sp.near s.at (λ j p. ap (λ (z : List ℕ). slice_index z j) (sym sp.places) ∙ ap (slice_index firsts) (sym (none_add j)))) in (
+      unrefused _ all c h ns us firsts r s (walks_are c h ns us i.rules) good proper,
+      record { contents = c; image = i; assembled = assembled all c h ns us firsts r s original low spelled entered proper },
+    )
 
 by_marks : (bytes : List ℕ) (c : Contents) (us : List Unit) (firsts marks : List ℕ) → AreBytes bytes → Image bytes c → c.rewritten ≡ false → Spell firsts 0 firsts us c.code → AreEntered firsts marks (marks_of c) → IsProper us c.sealed → IsAgain bytes (lines_with c marks us)
 by_marks bytes c us firsts [] small i original spelled entered proper = absurd entered

@@ -1,27 +1,26 @@
 -- The lines of an original image: their rules, what their rows hold, and that nothing is refused of them.
-use Rattle.std.specs.Prelude.{◌≡◌, ◌⊎◌, ℕ, suc, ◌+◌, ◌-◌, ◌*◌, ◌/◌, ◌%◌, ◌^◌, ◌<◌, ◌≤◌, ◌||◌, nat_le, nat_lt, Bool, true, false, List, [], ◌∷◌, ◌++◌, length, map, slice_index, sum_by, Option, Some, None, option_map, unwrap_or, decimal}
+use Rattle.std.specs.Prelude.{◌≡◌, ℕ, suc, ◌+◌, ◌*◌, ◌/◌, ◌%◌, ◌^◌, ◌<◌, ◌≤◌, nat_le, nat_lt, Bool, true, false, List, [], ◌∷◌, ◌++◌, length, slice_index, decimal}
 use Rattle.std.specs.Char.{digit_char}
 use Rattle.std.specs.List.{AllByRecursion}
-use Rattle.std.proofs.Common.{refl, sym, ◌∙◌, ap, ap₂, subst, cond, arith, inl, inr}
+use Rattle.std.proofs.Common.{refl, sym, ◌∙◌, ap, ap₂, subst, arith, inl, inr}
 use Rattle.std.proofs.lemmas.Bool.{and_from, cases_lt, le-leb, le-ltb, lt-leb, lt-ltb, or_left, or_right, cond-true, cond-false}
 use Rattle.mote_base.specs.Digits.{pairs_text}
 use Rattle.mote_layout.specs.Memory.{bank_words}
 use Rattle.unit_code.specs.declared.unit.Unit.{Unit}
 use Rattle.unit_code.specs.declared.unit.Unit.TheVariants as unit
-use Rattle.unit_code.specs.Proper.{IsGuardedSo, IsOfKind, LeadsBelow}
-use Rattle.unit_code.specs.Spelled.{AreEntered}
+use Rattle.unit_code.specs.Proper.{LeadsBelow}
 use Rattle.module_image.specs.declared.face.Provided.{Provided}
 use Rattle.module_image.specs.declared.face.Subscribed.{Subscribed}
 use Rattle.module_image.specs.Contents.{AreProvided, Contents, IsPrintable, IsPrototype, IsSubscribed, constants_limit}
 use Rattle.avr_asm.specs.Text.{are_pairs, hex_value, is_digit, is_hex, is_printable, is_prototype, pair_bytes}
-use Rattle.avr_asm.specs.Line.{Line, Module, Version, State, Handler, Sealed, Provides, Subscribes, Const, Code, Item, Rules}
+use Rattle.avr_asm.specs.Line.{Line, Module, Version, State, Handler, Sealed, Provides, Subscribes, Const, Code, Rules}
 use Rattle.avr_asm.specs.Rows.{Row, unit_words}
-use Rattle.avr_asm.specs.Refusals.{place_in, resolved, row_of}
+use Rattle.avr_asm.specs.Refusals.{place_in, row_of}
 use Rattle.avr_asm.specs.Assembly.{number_of, word_of}
 use Rattle.avr_asm.specs.Encoding.{places_from}
-use Rattle.avr_asm.specs.Source.{aim, bare, constant_lines, lines_behind, lines_with, provided_lines, seal_lines, subscribed_lines, unit_lines}
-use Rattle.avr_asm.proofs.Texted.{Gathers, gather_step, goal_decimal, resolved_decimal}
-use Rattle.avr_asm.proofs.Again.{AllGood, AreNear, Good, handler_good, provided_good, unit_good, units_gather, units_rules}
+use Rattle.avr_asm.specs.Source.{bare, constant_lines, lines_behind, lines_with, provided_lines, seal_lines, subscribed_lines, unit_lines}
+use Rattle.avr_asm.proofs.Texted.{Gathers, gather_step, goal_decimal}
+use Rattle.avr_asm.proofs.Again.{AllGood, AllNear, handler_good, provided_good, unit_good}
 
 -- digits of bytes
 digit_low : (n : ℕ) → n < 10 → digit_char n ≡ 48 + n
@@ -31,19 +30,22 @@ digit_high : (n : ℕ) → 10 ≤ n → digit_char n ≡ 87 + n
 digit_high n h = cond-false (nat_lt n 10) _ _ (le-ltb n 10 h)
 
 hex_low : (n : ℕ) → n < 10 → (is_hex (48 + n) ≡ true) × (hex_value (48 + n) ≡ n)
-hex_low n h =
-    (or_left (is_digit (48 + n)) _ (and_from (nat_le 48 (48 + n)) _ (le-leb 48 (48 + n) (omega arith)) (le-leb (48 + n) 57 (omega (arith, h)))),
-     cond-false (nat_le 97 (48 + n)) _ _ (lt-leb 97 (48 + n) (omega (arith, h))) ∙ omega arith)
+hex_low n h = (
+  or_left (is_digit (48 + n)) _ (and_from (nat_le 48 (48 + n)) _ (le-leb 48 (48 + n) (omega arith)) (le-leb (48 + n) 57 (omega (arith, h)))),
+  cond-false (nat_le 97 (48 + n)) _ _ (lt-leb 97 (48 + n) (omega (arith, h))) ∙ omega arith,
+)
 
 hex_high : (n : ℕ) → 10 ≤ n → n < 16 → (is_hex (87 + n) ≡ true) × (hex_value (87 + n) ≡ n)
-hex_high n h k =
-    (or_right (is_digit (87 + n)) _ (and_from (nat_le 97 (87 + n)) _ (le-leb 97 (87 + n) (omega (arith, h))) (le-leb (87 + n) 102 (omega (arith, k)))),
-     cond-true (nat_le 97 (87 + n)) _ _ (le-leb 97 (87 + n) (omega (arith, h))) ∙ omega arith)
+hex_high n h k = (
+  or_right (is_digit (87 + n)) _ (and_from (nat_le 97 (87 + n)) _ (le-leb 97 (87 + n) (omega (arith, h))) (le-leb (87 + n) 102 (omega (arith, k)))),
+  cond-true (nat_le 97 (87 + n)) _ _ (le-leb 97 (87 + n) (omega (arith, h))) ∙ omega arith,
+)
 
 hex_digit : (n : ℕ) → n < 16 → (is_hex (digit_char n) ≡ true) × (hex_value (digit_char n) ≡ n)
 hex_digit n h = elim (cases_lt n 10) as (λ z. (is_hex (digit_char n) ≡ true) × (hex_value (digit_char n) ≡ n)) [
-    inl low ↦ subst (λ (d : ℕ). (is_hex d ≡ true) × (hex_value d ≡ n)) (sym (digit_low n low)) (hex_low n low)
-  | inr high ↦ subst (λ (d : ℕ). (is_hex d ≡ true) × (hex_value d ≡ n)) (sym (digit_high n high)) (hex_high n high h) ]
+  | inl low ↦ subst (λ (d : ℕ). (is_hex d ≡ true) × (hex_value d ≡ n)) (sym (digit_low n low)) (hex_low n low)
+  | inr high ↦ subst (λ (d : ℕ). (is_hex d ≡ true) × (hex_value d ≡ n)) (sym (digit_high n high)) (hex_high n high h)
+]
 
 abbrev pub AreBytes : List ℕ → Type 0
 AreBytes bytes = AllByRecursion (λ byte. byte < 256) bytes
@@ -154,14 +156,15 @@ bare_words (unit.Jump t) = refl
 bare_words (unit.LocalCall t) = refl
 bare_words _ = refl
 
-pub units_good : (all : List Row) (firsts : List ℕ) (total k place : ℕ) (us : List Unit) → total ≤ bank_words → total ≡ k + length us → AllByRecursion (LeadsBelow total) us → AreNear firsts place us
+pub units_good : (all : List Row) (firsts : List ℕ) (total k place : ℕ) (us : List Unit) → total ≤ bank_words → total ≡ k + length us → AllByRecursion (LeadsBelow total) us → AllNear firsts place us
     → ((t : ℕ) → t < total → place_in (row_of all t) ≡ slice_index firsts t) → ((j : ℕ) → j < length us → slice_index (places_from place us) j ≡ slice_index firsts (k + j)) → AllGood all total k place (unit_lines us)
 units_good all firsts total k place [] few size l n at own = tt
 units_good all firsts total k place (u ∷ us) few size l n at own =
     let own' : (j : ℕ) → j < length us → slice_index (places_from (place + unit_words u) us) j ≡ slice_index firsts (suc k + j) =
-    λ j p. (let e : k + suc j ≡ suc k + j = omega arith in own (suc j) (omega (arith, p)) ∙ ap (slice_index firsts) e) in
-    (unit_good all firsts total k place u us few size l.0 n.0 at own,
-     subst (λ (m : ℕ). AllGood all total (suc k) (place + m) (unit_lines us)) (sym (bare_words u)) (units_good all firsts total (suc k) (place + unit_words u) us few (omega (arith, size)) l.1 n.1 at own'))
+    λ j p. (let e : k + suc j ≡ suc k + j = omega arith in own (suc j) (omega (arith, p)) ∙ ap (slice_index firsts) e) in (
+      unit_good all firsts total k place u us few size l.0 n.0 at own,
+      subst (λ (m : ℕ). AllGood all total (suc k) (place + m) (unit_lines us)) (sym (bare_words u)) (units_good all firsts total (suc k) (place + unit_words u) us few (omega (arith, size)) l.1 n.1 at own'),
+    )
 
 seal_all_good : (all : List Row) (total k place : ℕ) (sealed : Bool) (ls : List Line) → AllGood all total k place ls → AllGood all total k place (seal_lines sealed ++ ls)
 seal_all_good all total k place true ls h = (record { named = λ n. refl; led_so = λ n s. refl }, h)
@@ -190,8 +193,13 @@ all_good all total c h ns us few low lows g =
     seal_all_good all total 0 0 c.sealed (provided_lines ps ns ++ (subscribed_lines ss ++ (constant_lines cs ++ body)))
     (provided_all_good all total 0 0 ps ns (subscribed_lines ss ++ (constant_lines cs ++ body)) few lows
     (subscribed_all_good all total 0 0 ss (constant_lines cs ++ body)
-    (constant_all_good all total 0 0 cs body (record { named = λ n. refl; led_so = λ n s. refl }, g)))) in
-    (record { named = λ n. refl; led_so = λ n s. refl },
-     (record { named = λ n. refl; led_so = λ n s. refl },
-      (record { named = λ n. refl; led_so = λ n s. refl },
-       (handler_good all total 0 0 h (omega (arith, low, few)) low, rest))))
+    (constant_all_good all total 0 0 cs body (record { named = λ n. refl; led_so = λ n s. refl }, g)))) in (
+      record { named = λ n. refl; led_so = λ n s. refl },
+      (
+        record { named = λ n. refl; led_so = λ n s. refl },
+        (
+          record { named = λ n. refl; led_so = λ n s. refl },
+          (handler_good all total 0 0 h (omega (arith, low, few)) low, rest),
+        ),
+      ),
+    )

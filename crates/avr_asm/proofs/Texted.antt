@@ -1,32 +1,29 @@
 -- The rows of a text that is written line by line.
-use Rattle.std.specs.Prelude.{◌≡◌, ◌≢◌, ◌⊎◌, ℕ, zero, suc, ◌+◌, ◌-◌, ◌*◌, ◌^◌, ◌<◌, ◌≤◌, ◌==◌, ◌&&◌, ◌||◌, not, nat_le, nat_lt, Bool, true, false, List, [], ◌∷◌, ◌++◌, length, slice_index, sum_by, Option, Some, None, is_none, codes, decimal, ⊤}
+use Rattle.std.specs.Prelude.{◌≡◌, ◌⊎◌, ℕ, suc, ◌+◌, ◌^◌, ◌<◌, ◌≤◌, ◌==◌, ◌&&◌, ◌||◌, nat_le, nat_lt, Bool, true, false, List, [], ◌∷◌, ◌++◌, length, Option, Some, None, is_none, codes, decimal, ⊤}
 use Rattle.std.specs.Str.{bytes_eq}
 use Rattle.std.specs.List.{AllByRecursion}
-use Rattle.std.proofs.Common.{refl, sym, ◌∙◌, ap, ap₂, subst, cond, arith, append_assoc, get_or, inl, inr}
-use Rattle.std.proofs.lemmas.Bool.{and_parts, and_from, cases_lt, eq-eqb, ne_eqb, le-leb, lt-ltb, or_left, or_from, true≢false, cond-true, cond-false}
+use Rattle.std.proofs.Common.{refl, sym, ◌∙◌, ap, arith, append_assoc, get_or, inl, inr}
+use Rattle.std.proofs.lemmas.Bool.{and_parts, and_from, cases_lt, eq-eqb, ne_eqb, le-leb, lt-ltb, or_left, true≢false, cond-true, cond-false}
 use Rattle.std.proofs.lemmas.Fmt.{decimal_digit, first_decimal}
 use Rattle.avr_isa.specs.declared.instruction.Instr.{Instr}
 use Rattle.avr_isa.specs.declared.instruction.Instr.TheVariants as instr
 use Rattle.mote_layout.specs.Limits.{provided_limit, subscribed_limit}
 use Rattle.unit_code.specs.declared.unit.Unit.{Unit}
 use Rattle.unit_code.specs.declared.unit.Unit.TheVariants as unit
-use Rattle.unit_code.specs.Loads.{guarded, is_load, load_where}
-use Rattle.unit_code.specs.Proper.{IsGuardedSo, IsOfKind}
 use Rattle.avr_list.specs.Instructions.{HasText, instruction_text}
 use Rattle.avr_list.proofs.Held.{plain_has_text, skip_has_text, store_has_text}
 use Rattle.module_image.specs.declared.face.Provided.{Provided}
 use Rattle.module_image.specs.declared.face.Subscribed.{Subscribed}
 use Rattle.module_image.specs.Contents.{AreProvided, second_version}
 use Rattle.avr_asm.specs.declared.stage.Step.{Step}
-use Rattle.avr_asm.specs.declared.stage.Step.TheVariants.{Opening, Named, Versioned, Sized, Handled, Closed, Providing, Subscribing, Constants, Body}
+use Rattle.avr_asm.specs.declared.stage.Step.TheVariants.{Named, Sized, Handled, Closed, Providing, Subscribing, Constants, Body}
 use Rattle.avr_asm.specs.declared.stage.Stage.{Stage}
-use Rattle.avr_asm.specs.Text.{are_digits, are_word, begins_well, has, is_blank, is_goal, is_name, is_number, is_word, lines_in, value}
+use Rattle.avr_asm.specs.Text.{are_digits, are_word, begins_well, has, is_blank, is_goal, is_name, is_number, is_word, lines_in}
 use Rattle.avr_asm.specs.Line.{Line, Module, Version, State, Handler, Sealed, Provides, Subscribes, Const, Code, Label, Item, Rules, ended, line_text}
-use Rattle.avr_asm.specs.Reading.{said}
 use Rattle.avr_asm.specs.Rows.{Row, allowed, at_step, behind, is_between, kept, place_after, rank, rows, start, unit_after, with_provided, with_subscribed, with_version}
-use Rattle.avr_asm.specs.Refusals.{count, first, is_misplaced, is_sealed, led, resolved, seals, some_goal}
-use Rattle.avr_asm.specs.Assembly.{aimed, number_of, numbers_of, onto_numbers, onto_provided, onto_subscribed, onto_units, pairs_in, pairs_of, provided_of, subscribed_of, units_in, word_of}
-use Rattle.avr_asm.specs.Source.{aim, bare, constant_lines, provided_lines, seal_lines, subscribed_lines, text_of, unit_lines}
+use Rattle.avr_asm.specs.Refusals.{first, is_misplaced, is_sealed, led, resolved, seals, some_goal}
+use Rattle.avr_asm.specs.Assembly.{numbers_of, onto_numbers, onto_provided, onto_subscribed, onto_units, pairs_in, pairs_of, provided_of, subscribed_of, units_in}
+use Rattle.avr_asm.specs.Source.{constant_lines, provided_lines, seal_lines, subscribed_lines, text_of, unit_lines}
 use Rattle.avr_asm.proofs.Cuts.{line_parted}
 use Rattle.avr_asm.proofs.Texts.{digits-decimal, value-decimal, word-decimal}
 use Rattle.avr_asm.proofs.Whole.{lines_lack, said_own}
@@ -108,8 +105,8 @@ pub rows_are : (n : ℕ) (s : Stage) (k place : ℕ) (ls : List Line) → AllByR
 rows_are n s k place [] h = refl
 rows_are n s k place (l ∷ ls) h =
     cond-false (is_blank (ended l)) _ _ (not_blank l h.0)
-  ∙ ap (λ (o : Option Line). record { line = n; stage = s; unit = k; place = place; says = o } ∷ rows (suc n) (kept s (behind s o)) (unit_after k o) (place_after place o) (all_ended ls)) (said_own l h.0)
-  ∙ ap (λ (z : List Row). record { line = n; stage = s; unit = k; place = place; says = Some l } ∷ z) (rows_are (suc n) (kept s (behind s (Some l))) (unit_after k (Some l)) (place_after place (Some l)) ls h.1)
+    ∙ ap (λ (o : Option Line). record { line = n; stage = s; unit = k; place = place; says = o } ∷ rows (suc n) (kept s (behind s o)) (unit_after k o) (place_after place o) (all_ended ls)) (said_own l h.0)
+    ∙ ap (λ (z : List Row). record { line = n; stage = s; unit = k; place = place; says = Some l } ∷ z) (rows_are (suc n) (kept s (behind s (Some l))) (unit_after k (Some l)) (place_after place (Some l)) ls h.1)
 
 -- A number in decimal is a goal, and names its unit.
 begins_from : (ds : List ℕ) → 48 < get_or ds 0 0 → begins_well ds ≡ true
@@ -119,8 +116,9 @@ begins_from (c ∷ d ∷ ds) h = lt-ltb 48 c h
 
 begins_decimal : (n : ℕ) → n < 2 ^ 64 → begins_well (decimal n) ≡ true
 begins_decimal n h = elim (cases_lt 0 n) as (λ z. begins_well (decimal n) ≡ true) [
-    inl p ↦ begins_from (decimal n) (first_decimal n p h)
-  | inr p ↦ (let e : n ≡ 0 = omega (arith, p) in ap (λ (m : ℕ). begins_well (decimal m)) e ∙ ap begins_well (decimal_digit 0 (omega arith))) ]
+  | inl p ↦ begins_from (decimal n) (first_decimal n p h)
+  | inr p ↦ (let e : n ≡ 0 = omega (arith, p) in ap (λ (m : ℕ). begins_well (decimal m)) e ∙ ap begins_well (decimal_digit 0 (omega arith)))
+]
 
 number_decimal : (n : ℕ) → n < 2 ^ 16 → is_number (decimal n) ≡ true
 number_decimal n h = and_from (are_digits (decimal n)) _ (digits-decimal n (omega (arith, h))) (begins_decimal n (omega (arith, h)))
@@ -147,8 +145,8 @@ pub walks_placed : (n : ℕ) (s : Stage) (k place : ℕ) (ls : List Line) → Wa
 walks_placed n s k place [] h = refl
 walks_placed n s k place (l ∷ ls) (next, is, more) =
     cond-false (is_none (behind s (Some l))) _ _ (ap is_none is)
-  ∙ ap (λ (z : Stage). first is_misplaced (row_list (suc n) z (unit_after k (Some l)) (place_after place (Some l)) ls)) (ap (kept s) is)
-  ∙ walks_placed (suc n) next (unit_after k (Some l)) (place_after place (Some l)) ls more
+    ∙ ap (λ (z : Stage). first is_misplaced (row_list (suc n) z (unit_after k (Some l)) (place_after place (Some l)) ls)) (ap (kept s) is)
+    ∙ walks_placed (suc n) next (unit_after k (Some l)) (place_after place (Some l)) ls more
 
 then : (b : Bool) (s : Stage) → b ≡ true → allowed b s ≡ Some s
 then b s h = ap (λ (t : Bool). allowed t s) h
@@ -170,16 +168,20 @@ const_walk s (c ∷ cs) us a b (inr v) = absurd (cc)
 
 subscribed_walk : (s : Stage) (ss : List Subscribed) (cs : List ℕ) (us : List Unit) → 4 ≤ rank s.step → rank s.step ≤ 7 → s.subscribed + length ss ≤ subscribed_limit → (s.version ≡ second_version) ⊎ (cs ≡ []) → Walks s (subscribed_lines ss ++ (constant_lines cs ++ (Code ∷ unit_lines us)))
 subscribed_walk s [] cs us a b few v = const_walk s cs us a b v
-subscribed_walk s (x ∷ ss) cs us a b few v =
-    (with_subscribed s, then _ (with_subscribed s) (and_from (is_between Subscribing s.step) _ (step_between Subscribing s.step a b) (lt-ltb s.subscribed subscribed_limit (omega (arith, few)))),
-     subscribed_walk (with_subscribed s) ss cs us (omega arith) (omega arith) (omega (arith, few)) v)
+subscribed_walk s (x ∷ ss) cs us a b few v = (
+  with_subscribed s,
+  then _ (with_subscribed s) (and_from (is_between Subscribing s.step) _ (step_between Subscribing s.step a b) (lt-ltb s.subscribed subscribed_limit (omega (arith, few)))),
+  subscribed_walk (with_subscribed s) ss cs us (omega arith) (omega arith) (omega (arith, few)) v,
+)
 
 provided_walk : (s : Stage) (ps : List Provided) (ns : List ℕ) (ss : List Subscribed) (cs : List ℕ) (us : List Unit) → 4 ≤ rank s.step → rank s.step ≤ 6 → s.provided + length ps ≤ provided_limit → AreProvided s.least ps → s.subscribed + length ss ≤ subscribed_limit → (s.version ≡ second_version) ⊎ (cs ≡ []) → Walks s (provided_lines ps ns ++ (subscribed_lines ss ++ (constant_lines cs ++ (Code ∷ unit_lines us))))
 provided_walk s [] ns ss cs us a b few rise more v = subscribed_walk s ss cs us a (omega (arith, b)) more v
 provided_walk s (p ∷ ps) [] ss cs us a b few rise more v = subscribed_walk s ss cs us a (omega (arith, b)) more v
-provided_walk s (p ∷ ps) (n ∷ ns) ss cs us a b few rise more v =
-    (with_provided p.func s, then _ (with_provided p.func s) (and_from (is_between Providing s.step) _ (step_between Providing s.step a b) (and_from (nat_lt s.provided provided_limit) _ (lt-ltb s.provided provided_limit (omega (arith, few))) (le-leb s.least p.func rise.0))),
-     provided_walk (with_provided p.func s) ps ns ss cs us (omega arith) (omega arith) (omega (arith, few)) rise.4 more v)
+provided_walk s (p ∷ ps) (n ∷ ns) ss cs us a b few rise more v = (
+  with_provided p.func s,
+  then _ (with_provided p.func s) (and_from (is_between Providing s.step) _ (step_between Providing s.step a b) (and_from (nat_lt s.provided provided_limit) _ (lt-ltb s.provided provided_limit (omega (arith, few))) (le-leb s.least p.func rise.0))),
+  provided_walk (with_provided p.func s) ps ns ss cs us (omega arith) (omega arith) (omega (arith, few)) rise.4 more v,
+)
 
 pub seal_walk : (s : Stage) (sealed : Bool) (ps : List Provided) (ns : List ℕ) (ss : List Subscribed) (cs : List ℕ) (us : List Unit) → rank s.step ≡ 4 → s.provided + length ps ≤ provided_limit → AreProvided s.least ps → s.subscribed + length ss ≤ subscribed_limit → (s.version ≡ second_version) ⊎ (cs ≡ []) → (s.version ≡ second_version) ⊎ (sealed ≡ false) → Walks s (seal_lines sealed ++ (provided_lines ps ns ++ (subscribed_lines ss ++ (constant_lines cs ++ (Code ∷ unit_lines us)))))
 seal_walk s false ps ns ss cs us r few rise more v w = provided_walk s ps ns ss cs us (omega (arith, r)) (omega (arith, r)) few rise more v

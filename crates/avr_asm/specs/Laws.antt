@@ -50,7 +50,8 @@ abbrev pub SourceIsCanonical : Type 0
 SourceIsCanonical = (text bytes : List ℕ) (c : Contents) → refusal_of text ≡ None → IsImageOf text bytes → image_of bytes ≡ Ok c
     → source_of c ≡ canon text
 
--- The source of an original image whose code has units is assembled, and to that image.
+-- The source of an original image whose code has units is assembled, and to that image. That the file's numbers are bytes is a
+-- premise, since `Image` leaves it open for the constants.
 abbrev pub ImageIsAssembled : Type 0
 ImageIsAssembled = (bytes : List ℕ) (c : Contents) → AllByRecursion (λ byte. byte < 256) bytes → Image bytes c → c.rewritten ≡ false
     → refusal c.code (marks_of c) c.sealed ≡ None → (refusal_of (source_of c) ≡ None) × IsImageOf (source_of c) bytes
