@@ -90,7 +90,7 @@ begin_length (i ∷ is) (w ∷ ws) rest h =
     let others = begin_length is (drop (instruction_length i) (w ∷ ws)) rest h.1 in
     dropped (instruction_length i) w ws (decoded_count w (next_word ws) i (instruction_length i) h.0) ∙ ap (λ n. instruction_length i + n) others ∙ omega (arith, sum)
 
-own_words : (firsts : List ℕ) (place : ℕ) (u : Unit) (is : List Instr) → AreInstructionsOf firsts place u is → sum_by instruction_length is ≡ unit_words u
+pub own_words : (firsts : List ℕ) (place : ℕ) (u : Unit) (is : List Instr) → AreInstructionsOf firsts place u is → sum_by instruction_length is ≡ unit_words u
 own_words firsts place (unit.Plain i) is h = ap (sum_by instruction_length) h ∙ omega arith
 own_words firsts place (unit.Store i) is h = ap (sum_by instruction_length) h ∙ omega arith
 own_words firsts place (unit.Load i) is h = ap (sum_by instruction_length) h ∙ omega arith

@@ -15,3 +15,7 @@ pub mod Respelled
 pub mod Whole
 pub mod Canons
 pub mod Uniques
+pub mod Texted
+pub mod Again
+pub mod Reread
+pub mod Assembled

@@ -76,7 +76,7 @@ skipped_alike (k ∷ []) (u ∷ v ∷ us) h = absurd h.1
 skipped_alike (k ∷ l ∷ ks) (u ∷ []) h = absurd h.1
 skipped_alike (k ∷ l ∷ ks) (u ∷ v ∷ us) h = ap not h.0.group
 
-skip_alike : (u : Unit) (ks us : List Unit) → AreAlike ks us → cannot_skip u ks ≡ cannot_skip u us
+pub skip_alike : (u : Unit) (ks us : List Unit) → AreAlike ks us → cannot_skip u ks ≡ cannot_skip u us
 skip_alike (Skip i) ks us h = ap not (skipped_alike ks us h)
 skip_alike _ ks us h = refl
 

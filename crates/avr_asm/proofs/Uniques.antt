@@ -73,7 +73,7 @@ begin_same (i ∷ is) (v ∷ vs) (w ∷ ws) rest other p q a b e =
     one_same (instruction_length i) i v w vs ws p q a.0 b.0
     (begin_same is (drop (instruction_length i) (v ∷ vs)) (drop (instruction_length i) (w ∷ ws)) rest other (small_rest (instruction_length i) (v ∷ vs) p) (small_rest (instruction_length i) (w ∷ ws) q) a.1 b.1 e)
 
-begin_small : (is : List Instr) (vs rest : List ℕ) → AreSmall vs → BeginWith is vs rest → AreSmall rest
+pub begin_small : (is : List Instr) (vs rest : List ℕ) → AreSmall vs → BeginWith is vs rest → AreSmall rest
 begin_small [] vs rest p h = subst AreSmall h p
 begin_small (i ∷ is) [] rest p h = absurd h
 begin_small (i ∷ is) (v ∷ vs) rest p h = begin_small is (drop (instruction_length i) (v ∷ vs)) rest (small_rest (instruction_length i) (v ∷ vs) p) h.1

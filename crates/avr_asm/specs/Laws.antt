@@ -1,8 +1,10 @@
 -- What holds of texts and images.
-use Rattle.std.specs.Prelude.{◌≡◌, ◌≤◌, ◌⊎◌, ℕ, Bool, true, false, List, [], ◌∷◌, Some, None, Ok}
+use Rattle.std.specs.Prelude.{◌≡◌, ◌<◌, ◌≤◌, ◌⊎◌, ℕ, Bool, true, false, List, [], ◌∷◌, Some, None, Ok}
+use Rattle.std.specs.List.{AllByRecursion}
 use Rattle.unit_code.specs.Units.{refusal}
 use Rattle.module_image.specs.Contents.{Contents}
 use Rattle.module_image.specs.Reading.{image_of}
+use Rattle.module_image.specs.Spelling.{Image}
 use Rattle.avr_asm.specs.Line.{Line, Says}
 use Rattle.avr_asm.specs.Reading.{said}
 use Rattle.avr_asm.specs.Rows.{Row, rows_of}
@@ -47,3 +49,9 @@ ImagesAreOne = (text a b : List ℕ) → IsImageOf text a → IsImageOf text b �
 abbrev pub SourceIsCanonical : Type 0
 SourceIsCanonical = (text bytes : List ℕ) (c : Contents) → refusal_of text ≡ None → IsImageOf text bytes → image_of bytes ≡ Ok c
     → source_of c ≡ canon text
+
+-- The source of an original image whose code has units is assembled, and to that image. That the file's numbers are bytes is a
+-- premise, since `Image` leaves it open for the constants.
+abbrev pub ImageIsAssembled : Type 0
+ImageIsAssembled = (bytes : List ℕ) (c : Contents) → AllByRecursion (λ byte. byte < 256) bytes → Image bytes c → c.rewritten ≡ false
+    → refusal c.code (marks_of c) c.sealed ≡ None → (refusal_of (source_of c) ≡ None) × IsImageOf (source_of c) bytes

@@ -1,5 +1,5 @@
 //! Laws of the definitions. Each is the contract of a function that does nothing.
-ghost use Rattle.avr_asm.specs.Laws.{ImagesAreOne, ImagesPass, LinesAreReadInOneWay, RefusalsAreLeast, SourceIsCanonical};
+ghost use Rattle.avr_asm.specs.Laws.{ImageIsAssembled, ImagesAreOne, ImagesPass, LinesAreReadInOneWay, RefusalsAreLeast, SourceIsCanonical};
 
 /// Law: a line says what is written so, and says it alone.
 pub fn lines_are_read_in_one_way()
@@ -24,4 +24,9 @@ pub fn images_are_one()
 /// Law: the source of the image of a text is the canonical text of the text.
 pub fn source_is_canonical()
     ensures { SourceIsCanonical }
+{}
+
+/// Law: the source of an original image is assembled, and to that image, byte for byte.
+pub fn image_is_assembled()
+    ensures { ImageIsAssembled }
 {}
