@@ -24,3 +24,4 @@ pub mod OthersLaws
 pub mod LawfulLaws
 pub mod FileLaws
 pub mod RanLaws
+pub mod CommandLaws

@@ -1,50 +1,254 @@
--- The command that the words are, and the files that it takes.
-use Rattle.std.specs.Prelude.{ℕ, ◌+◌, ◌&&◌, ◌==◌, nat_lt, nat_le, if◌then◌else◌, Bool, List, [], ◌∷◌, length, slice_index, codes, Option, Some, None}
-use Rattle.std.specs.List.{list_any}
+-- The command that the words of the command line are, and the files that it takes.
+use Rattle.std.specs.Prelude.{ℕ, ◌≡◌, ◌≤◌, ◌↔◌, ◌+◌, ◌&&◌, ◌==◌, nat_lt, nat_le, if◌then◌else◌, Bool, false, IsTrue, List, [], ◌∷◌, ◌++◌, length, slice_index, codes, Option, Some, None, unwrap_or}
+use Rattle.std.specs.List.{AllByRecursion}
 use Rattle.std.specs.Str.{bytes_eq}
-use Rattle.mote_layout.specs.Limits.{image_limit, images_limit, script_limit}
+use Rattle.mote_base.specs.Numbers.{number_in}
+use Rattle.mote_layout.specs.Limits.{image_limit, images_limit, script_limit, unit_limit, default_units, handler_limit, default_handler_units}
 use Rattle.domain_model.specs.declared.request.Kind.{Kind}
 use Rattle.domain_model.specs.declared.request.Kind.TheVariants.{Run, Listing, Upgrade, Seal}
+use Rattle.domain_model.specs.declared.request.Setting.{Setting}
+use Rattle.domain_model.specs.declared.request.Setting.TheVariants.{Units, Handler}
+use Rattle.domain_model.specs.declared.request.Place.{Place}
+use Rattle.domain_model.specs.declared.request.Place.TheVariants.{Options, Value, Operands}
 
 -- What is to be done, and the names of the files that it takes, in their order.
 pub record Command : Type 0 where
   pub kind : Kind
   pub files : List (List ℕ)
 
+-- whether it takes so many files: `run` a script and 1 to 64 images, and each other command an image
+abbrev pub takes : Kind → ℕ → Bool
+takes (Run units handler) count = nat_le 2 count && nat_le count (1 + images_limit)
+takes Listing count = count == 1
+takes Upgrade count = count == 1
+takes Seal count = count == 1
+
+-- The most bytes of the command's file with that number, counted from 0: 1,048,576 of a script and 65,536
+-- of an image.
+abbrev pub limit_of : Kind → ℕ → ℕ
+limit_of (Run units handler) number = if number == 0 then script_limit else image_limit
+limit_of Listing number = image_limit
+limit_of Upgrade number = image_limit
+limit_of Seal number = image_limit
+
+-- The limits of a run are in their ranges.
+abbrev pub IsWithinLimits : Kind → Type 0
+IsWithinLimits (Run units handler) = (1 ≤ units) × (units ≤ unit_limit) × (1 ≤ handler) × (handler ≤ handler_limit)
+IsWithinLimits Listing = Unit {0}
+IsWithinLimits Upgrade = Unit {0}
+IsWithinLimits Seal = Unit {0}
+
+-- The command of that name which takes no options.
+abbrev pub tool_of : List ℕ → Option Kind
+tool_of verb =
+    if bytes_eq verb (codes "list")
+    then Some Listing
+    else (if bytes_eq verb (codes "upgrade") then Some Upgrade else (if bytes_eq verb (codes "seal") then Some Seal else None))
+
+abbrev pub without_limits : Option Kind → Option ℕ → Option ℕ → Option Kind
+without_limits kind None None = kind
+without_limits kind _ _ = None
+
+-- The command of that name with these limits, each where it is given. `run` alone takes limits, and has its own where
+-- none is given.
+abbrev pub kind_of : List ℕ → Option ℕ → Option ℕ → Option Kind
+kind_of verb units handler =
+    if bytes_eq verb (codes "run")
+    then Some (Run (unwrap_or units default_units) (unwrap_or handler default_handler_units))
+    else without_limits (tool_of verb) units handler
+
+-- The words.
+
 -- The word begins with `-` (45) and has more than one character.
 abbrev pub is_option : List ℕ → Bool
 is_option word = nat_lt 1 (length word) && (slice_index word 0 == 45)
 
--- the command of that name
-abbrev pub kind_of : List ℕ → Option Kind
-kind_of verb =
-    if bytes_eq verb (codes "run")
-    then Some Run
-    else (if bytes_eq verb (codes "list")
-    then Some Listing
-    else (if bytes_eq verb (codes "upgrade") then Some Upgrade else (if bytes_eq verb (codes "seal") then Some Seal else None)))
+-- the word that ends the options
+abbrev pub end_of_options : List ℕ
+end_of_options = codes "--"
 
--- whether it takes so many files: `run` a script and 1 to 64 images, and each other command an image
-abbrev pub takes : Kind → ℕ → Bool
-takes Run count = nat_le 2 count && nat_le count (1 + images_limit)
-takes Listing count = count == 1
-takes Upgrade count = count == 1
-takes Seal count = count == 1
+-- an option, where its value is the next word
+abbrev pub name_of : Setting → List ℕ
+name_of Units = codes "--units"
+name_of Handler = codes "--handler"
+
+-- an option, as its value stands behind it in one word
+abbrev pub front_of : Setting → List ℕ
+front_of Units = codes "--units="
+front_of Handler = codes "--handler="
+
+abbrev pub greatest : Setting → ℕ
+greatest Units = unit_limit
+greatest Handler = handler_limit
+
+-- The value that a text gives: 1 to the greatest, in decimal without leading zeros.
+abbrev pub value_of : Setting → List ℕ → Option ℕ
+value_of setting text = number_in 1 (greatest setting) text
+
+-- The rules.
+
+-- What a word of a command says, or two of them: it is an operand, or an option with its value, in one word or in two.
+pub data Item : Type 0 where
+  Operand : List ℕ → Item
+  Joined : Setting → List ℕ → ℕ → Item
+  Apart : Setting → List ℕ → ℕ → Item
+
+abbrev pub words_of : Item → List (List ℕ)
+words_of (Operand word) = word ∷ []
+words_of (Joined setting text value) = (front_of setting ++ text) ∷ []
+words_of (Apart setting text value) = name_of setting ∷ text ∷ []
+
+-- An operand does not look like an option, and the text of a value gives it.
+abbrev pub IsItem : Item → Type 0
+IsItem (Operand word) = is_option word ≡ false
+IsItem (Joined setting text value) = value_of setting text ≡ Some value
+IsItem (Apart setting text value) = value_of setting text ≡ Some value
+
+abbrev pub written : List Item → List (List ℕ)
+written [] = []
+written (item ∷ items) = words_of item ++ written items
+
+abbrev pub operand_of : Item → List (List ℕ)
+operand_of (Operand word) = word ∷ []
+operand_of (Joined setting text value) = []
+operand_of (Apart setting text value) = []
+
+abbrev pub operands : List Item → List (List ℕ)
+operands [] = []
+operands (item ∷ items) = operand_of item ++ operands items
+
+abbrev pub value_for : Setting → Setting → ℕ → List ℕ
+value_for Units Units value = value ∷ []
+value_for Handler Handler value = value ∷ []
+value_for _ _ value = []
+
+abbrev pub value_in : Setting → Item → List ℕ
+value_in setting (Operand word) = []
+value_in setting (Joined other text value) = value_for setting other value
+value_in setting (Apart other text value) = value_for setting other value
+
+-- the values that are given to an option, in their order
+abbrev pub values : Setting → List Item → List ℕ
+values setting [] = []
+values setting (item ∷ items) = value_in setting item ++ values setting items
+
+abbrev pub none_or_one : Option ℕ → List ℕ
+none_or_one None = []
+none_or_one (Some value) = value ∷ []
+
+-- the end of the options with the words behind it, where it stands
+abbrev pub ended : Option (List (List ℕ)) → List (List ℕ)
+ended None = []
+ended (Some behind) = end_of_options ∷ behind
+
+-- The words are this command. The first names it, and behind it stand operands and options in any order, and then maybe
+-- the end of the options, behind which every word is an operand. Each option stands at most once; its command takes
+-- it; and the command takes as many files as there are operands.
+pub record IsCommand (words : List (List ℕ)) (command : Command) : Type 0 where
+  pub verb : List ℕ
+  pub items : List Item
+  pub behind : Option (List (List ℕ))
+  pub words_are : words ≡ verb ∷ (written items ++ ended behind)
+  pub each : AllByRecursion IsItem items
+  pub units : Option ℕ
+  pub units_once : none_or_one units ≡ values Units items
+  pub handler : Option ℕ
+  pub handler_once : none_or_one handler ≡ values Handler items
+  pub named : kind_of verb units handler ≡ Some command.kind
+  pub files_are : command.files ≡ operands items ++ unwrap_or behind []
+  pub number : IsTrue (takes command.kind (length command.files))
+
+-- The words, read from the left.
+
+-- What the words say up to one of them, and where the next one stands.
+pub record Given : Type 0 where
+  pub place : Place
+  pub units : Option ℕ
+  pub handler : Option ℕ
+  pub files : List (List ℕ)
+
+abbrev pub nothing_given : Given
+nothing_given = record { place = Options; units = None; handler = None; files = [] }
+
+abbrev pub units_given : Option ℕ → ℕ → Given → Option Given
+units_given None value g = Some (record { place = Options; units = Some value; handler = g.handler; files = g.files })
+units_given (Some before) value g = None
+
+abbrev pub handler_given : Option ℕ → ℕ → Given → Option Given
+handler_given None value g = Some (record { place = Options; units = g.units; handler = Some value; files = g.files })
+handler_given (Some before) value g = None
+
+-- An option has its value, where it had none.
+abbrev pub with_value : Setting → Option ℕ → Given → Option Given
+with_value setting None g = None
+with_value Units (Some value) g = units_given g.units value g
+with_value Handler (Some value) g = handler_given g.handler value g
+
+-- one more operand, where a command may have as many
+abbrev pub with_operand : List ℕ → Given → Option Given
+with_operand word g =
+    if nat_le (length g.files) images_limit
+    then Some (record { place = g.place; units = g.units; handler = g.handler; files = g.files ++ word ∷ [] })
+    else None
+
+abbrev pub with_place : Place → Given → Given
+with_place place g = record { place = place; units = g.units; handler = g.handler; files = g.files }
+
+-- what stands behind such a front
+abbrev pub behind_front : List ℕ → List ℕ → Option (List ℕ)
+behind_front [] word = Some word
+behind_front (f ∷ fs) [] = None
+behind_front (f ∷ fs) (c ∷ cs) = if f == c then behind_front fs cs else None
+
+abbrev pub with_joined : Option (List ℕ) → Option (List ℕ) → Given → Option Given
+with_joined (Some text) other g = with_value Units (value_of Units text) g
+with_joined None (Some text) g = with_value Handler (value_of Handler text) g
+with_joined None None g = None
+
+abbrev pub with_option : List ℕ → Given → Option Given
+with_option word g =
+    if bytes_eq word (name_of Units) then Some (with_place (Value Units) g)
+    else (if bytes_eq word (name_of Handler) then Some (with_place (Value Handler) g)
+    else with_joined (behind_front (front_of Units) word) (behind_front (front_of Handler) word) g)
+
+abbrev pub with_any : List ℕ → Given → Option Given
+with_any word g =
+    if bytes_eq word end_of_options then Some (with_place Operands g)
+    else (if is_option word then with_option word g else with_operand word g)
+
+abbrev pub with_word : Place → List ℕ → Given → Option Given
+with_word Options word g = with_any word g
+with_word (Value setting) word g = with_value setting (value_of setting word) g
+with_word Operands word g = with_operand word g
+
+abbrev pub with_next : List ℕ → Option Given → Option Given
+with_next word None = None
+with_next word (Some g) = with_word g.place word g
+
+abbrev pub given_by : List (List ℕ) → Option Given → Option Given
+given_by [] g = g
+given_by (word ∷ words) g = given_by words (with_next word g)
 
 abbrev pub with_files : Option Kind → List (List ℕ) → Option Command
 with_files None files = None
 with_files (Some kind) files = if takes kind (length files) then Some (record { kind = kind; files = files }) else None
 
--- The first word names the command, and the others are its files. A word among these that looks like an
--- option makes the words no command.
+-- No option waits for its value where the words end.
+abbrev pub command_at : Place → List ℕ → Given → Option Command
+command_at Options verb g = with_files (kind_of verb g.units g.handler) g.files
+command_at (Value setting) verb g = None
+command_at Operands verb g = with_files (kind_of verb g.units g.handler) g.files
+
+abbrev pub command_with : List ℕ → Option Given → Option Command
+command_with verb None = None
+command_with verb (Some g) = command_at g.place verb g
+
 abbrev pub command_of : List (List ℕ) → Option Command
 command_of [] = None
-command_of (verb ∷ words) = if list_any is_option words then None else with_files (kind_of verb) words
+command_of (verb ∷ words) = command_with verb (given_by words (Some nothing_given))
 
--- The most bytes of the command's file with that number, counted from 0: 1,048,576 of a script and 65,536
--- of an image.
-abbrev pub limit_of : Kind → ℕ → ℕ
-limit_of Run number = if number == 0 then script_limit else image_limit
-limit_of Listing number = image_limit
-limit_of Upgrade number = image_limit
-limit_of Seal number = image_limit
+abbrev pub CommandsAreByRules : Type 0
+CommandsAreByRules = (words : List (List ℕ)) (command : Command) → (command_of words ≡ Some command) ↔ IsCommand words command
+
+abbrev pub CommandsAreWithinLimits : Type 0
+CommandsAreWithinLimits = (words : List (List ℕ)) (command : Command) → command_of words ≡ Some command → IsWithinLimits command.kind

@@ -1,10 +1,11 @@
-//! The commands.
+//! The commands, and the options of a run.
+ghost use Rattle.domain_model.specs.Command.{CommandsAreByRules, CommandsAreWithinLimits};
 
 /// What the words of the command line ask for.
 #[derive(Clone, Copy, Debug, PartialEq, Eq)]
 pub enum Kind {
-    /// Run a script over images.
-    Run,
+    /// Run a script over images: at most so many units in the run, and in one handler.
+    Run { units: u64, handler: u64 },
     /// List the units of an image.
     Listing,
     /// Write an image in the second version of the format.
@@ -12,3 +13,31 @@ pub enum Kind {
     /// Write an image that is sealed.
     Seal,
 }
+
+/// A limit of a run that an option gives.
+#[derive(Clone, Copy, Debug, PartialEq, Eq)]
+pub enum Setting {
+    /// On the units of the run.
+    Units,
+    /// On the units of one handler.
+    Handler,
+}
+
+/// Where a word of the command line stands, by the words before it.
+#[derive(Clone, Copy, Debug, PartialEq, Eq)]
+pub enum Place {
+    /// Where an option may stand, and an operand too.
+    Options,
+    /// Behind an option that has its value in the next word.
+    Value(Setting),
+    /// Behind the end of the options.
+    Operands,
+}
+
+/// Law: words are a command exactly where the rules of the command line say so, and then they are that one. The rules
+/// speak of operands and of options with their values; the definition that reads the words from the left has neither
+/// more commands nor fewer. The limits of a run are in their ranges, whether they are given or not.
+pub fn commands_are_by_rules()
+    ensures rules { CommandsAreByRules }
+    ensures limits { CommandsAreWithinLimits }
+{}

@@ -13,7 +13,8 @@ use Rattle.event_script.specs.declared.error.ScriptError.{ScriptError}
 use Rattle.event_script.specs.declared.error.ScriptError.TheVariants.{Order, ImageIndex, TooMany}
 use Rattle.event_script.specs.Lines.{TextLine, lines_of}
 use Rattle.mote_base.specs.Spaced.{words_of}
-use Rattle.event_script.specs.Numbers.{is_number, value_of, number_in, last_time, last_image, first_id, last_id, last_type}
+use Rattle.mote_base.specs.Numbers.{is_number, value_of, number_in}
+use Rattle.event_script.specs.Numbers.{last_time, last_image, first_id, last_id, last_type}
 use Rattle.event_script.specs.Bytes.{digit_of, onto_bytes, pairs_of, few_bytes, bytes_of}
 use Rattle.event_script.specs.Events.{Said, Nothing, An, Wrong, said, said_event, is_blank, event_of, event_with, asked_by, load_of, load_with, unload_of, unload_with, radio_of, radio_with, dump_of, events_in, onto_events}
 use Rattle.event_script.specs.Refusals.{against, against_event, asks_beyond, comes_late, is_too_much, first_against, or_later}

@@ -18,7 +18,8 @@ use Rattle.domain_model.specs.declared.script.What.TheVariants as what
 use Rattle.event_script.specs.Cut.{Lacks}
 use Rattle.event_script.specs.Lines.{TextLine, lines_of}
 use Rattle.mote_base.specs.Spaced.{words_of}
-use Rattle.event_script.specs.Numbers.{is_digit, is_number, value_of, number_in, most_digits, last_time, last_image, first_id, last_id, last_type}
+use Rattle.mote_base.specs.Numbers.{is_digit, is_number, value_of, number_in, most_digits}
+use Rattle.event_script.specs.Numbers.{last_time, last_image, first_id, last_id, last_type}
 use Rattle.event_script.specs.Bytes.{digit_of, onto_bytes, pairs_of, few_bytes, bytes_of}
 use Rattle.event_script.specs.Events.{Nothing, An, said, said_event, is_blank, event_of, event_with, asked_by, load_with, unload_with, radio_with, events_in, onto_events}
 use Rattle.event_script.specs.Refusals.{against, against_event, asks_beyond, comes_late, is_too_much, first_against, or_later}

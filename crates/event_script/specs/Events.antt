@@ -6,7 +6,8 @@ use Rattle.domain_model.specs.declared.script.What.{What}
 use Rattle.domain_model.specs.declared.script.What.TheVariants.{Load, Unload, Radio, Dump}
 use Rattle.event_script.specs.Lines.{TextLine}
 use Rattle.mote_base.specs.Spaced.{words_of}
-use Rattle.event_script.specs.Numbers.{number_in, last_time, last_image, first_id, last_id, last_type}
+use Rattle.mote_base.specs.Numbers.{number_in}
+use Rattle.event_script.specs.Numbers.{last_time, last_image, first_id, last_id, last_type}
 use Rattle.event_script.specs.Bytes.{bytes_of}
 
 -- `load I`

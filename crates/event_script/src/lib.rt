@@ -10,7 +10,6 @@ mod error;
 mod hex;
 mod laws;
 mod line;
-mod number;
 mod script;
 mod text;
 

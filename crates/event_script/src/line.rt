@@ -4,9 +4,9 @@ ghost use Rattle.event_script.specs.Events.{asked_by, event_of, load_of, radio_o
 ghost use Rattle.mote_base.specs.Spaced.{words_of};
 
 use crate::hex::bytes_of;
-use crate::number::number_in;
 use crate::text::first_word;
 use domain_model::{Event, What};
+use mote_base::number_in;
 
 /// The verb of an event that loads an image.
 const LOAD: &[u8] = b"load";

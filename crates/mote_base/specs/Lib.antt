@@ -6,6 +6,7 @@ pub mod Files
 pub mod Frames
 pub mod Lines
 pub mod Messages
+pub mod Numbers
 pub mod Shelves
 pub mod Sinks
 pub mod Spaced

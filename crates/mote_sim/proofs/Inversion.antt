@@ -71,58 +71,58 @@ all_whole kind (Longer n) text a = let e : Done ≡ Refused = a.0 in absurd (cc)
 all_whole kind Missing text a = absurd a
 
 -- What files other than the first come to: they are images within their limit.
-later_limit : (number : ℕ) → 1 ≤ number → limit_of Run number ≡ limit_of Run 1
-later_limit zero low = absurd (omega (arith, low))
-later_limit (suc n) low = ap (λ t. if t then script_limit else image_limit) (eqb-suc-zero n)
+later_limit : (units handler number : ℕ) → 1 ≤ number → limit_of (Run units handler) number ≡ image_limit
+later_limit units handler zero low = absurd (omega (arith, low))
+later_limit units handler (suc n) low = ap (λ t. if t then script_limit else image_limit) (eqb-suc-zero n)
 
-images_whole : (number : ℕ) (fs : List Named) (names files : List (List ℕ)) → 1 ≤ number → gathered_from Run number fs names ≡ Whole files → AreImages fs names files
-images_whole number fs [] [] low e = tt
-images_whole number fs [] (file ∷ files) low e = absurd (cc)
-images_whole number fs (name ∷ names) files low e =
-    let one = first_of number (limit_of Run number) (held fs name) (gathered_from Run (number + 1) fs names) files e in
-    let others = images_whole (number + 1) fs names one.rest (omega (arith, low)) one.others_are in
+images_whole : (units handler number : ℕ) (fs : List Named) (names files : List (List ℕ)) → 1 ≤ number → gathered_from (Run units handler) number fs names ≡ Whole files → AreImages fs names files
+images_whole units handler number fs [] [] low e = tt
+images_whole units handler number fs [] (file ∷ files) low e = absurd (cc)
+images_whole units handler number fs (name ∷ names) files low e =
+    let one = first_of number (limit_of (Run units handler) number) (held fs name) (gathered_from (Run units handler) (number + 1) fs names) files e in
+    let others = images_whole units handler (number + 1) fs names one.rest (omega (arith, low)) one.others_are in
     subst (AreImages fs (name ∷ names)) (sym one.files_are)
-    (one.held, subst (λ limit. length one.bytes ≤ limit) (later_limit number low) one.fits, others)
+    (one.held, subst (λ limit. length one.bytes ≤ limit) (later_limit units handler number low) one.fits, others)
 
 -- A run that is answered by Done has a script that is not refused, of loads and unloads alone, and images that are built.
-record Built (images : List (List ℕ)) (events : List Event) (refused : Option ScriptError) (text : List ℕ) : Type 0 where
+record Built (units handler : ℕ) (images : List (List ℕ)) (events : List Event) (refused : Option ScriptError) (text : List ℕ) : Type 0 where
   pub none : refused ≡ None
   pub loads : are_for_loader events ≡ true
   pub all : are_built images ≡ true
-  pub trace : IsTraceOf (run_input images events) text
+  pub trace : IsTraceOf (run_input units handler images events) text
 
-runs : (images : List (List ℕ)) (events : List Event) (loads all : Bool) (text : List ℕ) → Answers (outcome_with (input_with images events (loads && all))) Done text → (loads ≡ true) × (all ≡ true) × IsTraceOf (run_input images events) text
-runs images events true true text a = (refl, refl, a.1)
-runs images events true false text a = let e : Done ≡ Refused = a.0 in absurd (cc)
-runs images events false all text a = let e : Done ≡ Refused = a.0 in absurd (cc)
+runs : (units handler : ℕ) (images : List (List ℕ)) (events : List Event) (loads all : Bool) (text : List ℕ) → Answers (outcome_with (input_with units handler images events (loads && all))) Done text → (loads ≡ true) × (all ≡ true) × IsTraceOf (run_input units handler images events) text
+runs units handler images events true true text a = (refl, refl, a.1)
+runs units handler images events true false text a = let e : Done ≡ Refused = a.0 in absurd (cc)
+runs units handler images events false all text a = let e : Done ≡ Refused = a.0 in absurd (cc)
 
-built : (images : List (List ℕ)) (events : List Event) (refused : Option ScriptError) (text : List ℕ) → Answers (outcome_of_script refused events images) Done text → Built images events refused text
-built images events (Some error) text a = let e : Done ≡ Refused = a.0 in absurd (cc)
-built images events None text a =
-    let parts = runs images events (are_for_loader events) (are_built images) text a in
+built : (units handler : ℕ) (images : List (List ℕ)) (events : List Event) (refused : Option ScriptError) (text : List ℕ) → Answers (outcome_of_script units handler refused events images) Done text → Built units handler images events refused text
+built units handler images events (Some error) text a = let e : Done ≡ Refused = a.0 in absurd (cc)
+built units handler images events None text a =
+    let parts = runs units handler images events (are_for_loader events) (are_built images) text a in
     record { none = refl; loads = parts.0; all = parts.1; trace = parts.2 }
 
-built_from : (files images : List (List ℕ)) (script text : List ℕ) → files ≡ script ∷ images → Answers (outcome_by Run files) Done text → Built images (events_of script) (refusal_of (length images) script) text
-built_from files images script text is a =
-    built images (events_of script) (refusal_of (length images) script) text (subst (λ xs. Answers (outcome_by Run xs) Done text) is a)
+built_from : (units handler : ℕ) (files images : List (List ℕ)) (script text : List ℕ) → files ≡ script ∷ images → Answers (outcome_by (Run units handler) files) Done text → Built units handler images (events_of script) (refusal_of (length images) script) text
+built_from units handler files images script text is a =
+    built units handler images (events_of script) (refusal_of (length images) script) text (subst (λ xs. Answers (outcome_by (Run units handler) xs) Done text) is a)
 
-pub writes_run : (fs : List Named) (names : List (List ℕ)) (text before : List ℕ) (new : Option (List ℕ)) → HasItsFiles (record { kind = Run; files = names }) → Answers (outcome_of Run (gathered_from Run 0 fs names)) Done text → new ≡ Some (before ++ text) → WritesRun names fs before new
-writes_run fs [] text before new few a written = absurd a
-writes_run fs (s ∷ names) text before new few a written =
-    let w = all_whole Run (gathered_from Run 0 fs (s ∷ names)) text a in
-    let one = first_of 0 (limit_of Run 0) (held fs s) (gathered_from Run 1 fs names) w.files w.is in
-    let b = built_from w.files one.rest one.bytes text one.files_are w.answer in
+pub writes_run : (units handler : ℕ) (fs : List Named) (names : List (List ℕ)) (text before : List ℕ) (new : Option (List ℕ)) → HasItsFiles (record { kind = Run units handler; files = names }) → Answers (outcome_of (Run units handler) (gathered_from (Run units handler) 0 fs names)) Done text → new ≡ Some (before ++ text) → WritesRun units handler names fs before new
+writes_run units handler fs [] text before new few a written = absurd a
+writes_run units handler fs (s ∷ names) text before new few a written =
+    let w = all_whole (Run units handler) (gathered_from (Run units handler) 0 fs (s ∷ names)) text a in
+    let one = first_of 0 (limit_of (Run units handler) 0) (held fs s) (gathered_from (Run units handler) 1 fs names) w.files w.is in
+    let b = built_from units handler w.files one.rest one.bytes text one.files_are w.answer in
     record {
       script_name = s;
       image_names = names;
       named = refl;
-      least = one_at_least (length names) few;
-      most = most_images (length names) few;
+      least = one_at_least units handler (length names) few;
+      most = most_images units handler (length names) few;
       script = one.bytes;
       script_held = one.held;
       script_fits = one.fits;
       images = one.rest;
-      images_are = images_whole 1 fs names one.rest (omega arith) one.others_are;
+      images_are = images_whole units handler 1 fs names one.rest (omega arith) one.others_are;
       accepted = b.none;
       events = events_of one.bytes;
       events_are = refl;
@@ -152,9 +152,9 @@ with_is_command : (i : Option Input) → outcome_with i ≡ NoCommand → ⊥
 with_is_command None e = cc
 with_is_command (Some i) e = cc
 
-script_is_command : (refused : Option ScriptError) (events : List Event) (images : List (List ℕ)) → outcome_of_script refused events images ≡ NoCommand → ⊥
-script_is_command (Some error) events images e = cc
-script_is_command None events images e = with_is_command (input_of events images) e
+script_is_command : (units handler : ℕ) (refused : Option ScriptError) (events : List Event) (images : List (List ℕ)) → outcome_of_script units handler refused events images ≡ NoCommand → ⊥
+script_is_command units handler (Some error) events images e = cc
+script_is_command units handler None events images e = with_is_command (input_of units handler events images) e
 
 code_is_command : (c : Contents) (refused : Option CodeError) → outcome_of_code c refused ≡ NoCommand → ⊥
 code_is_command c (Some error) e = cc
@@ -185,8 +185,8 @@ sealing_is_command (Err error) e = cc
 sealing_is_command (Ok c) e = original_is_command (c.rewritten || c.sealed) c e
 
 by_is_command : (kind : Kind) (files : List (List ℕ)) → outcome_by kind files ≡ NoCommand → ⊥
-by_is_command Run [] e = cc
-by_is_command Run (script ∷ images) e = script_is_command (refusal_of (length images) script) (events_of script) images e
+by_is_command (Run units handler) [] e = cc
+by_is_command (Run units handler) (script ∷ images) e = script_is_command units handler (refusal_of (length images) script) (events_of script) images e
 by_is_command Listing [] e = cc
 by_is_command Listing (file ∷ []) e = image_is_command (image_of file) e
 by_is_command Listing (file ∷ other ∷ files) e = cc

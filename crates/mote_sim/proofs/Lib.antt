@@ -2,6 +2,7 @@ pub mod Chunks
 pub mod Clauses
 pub mod Ends
 pub mod Far
+pub mod Fronts
 pub mod Gather
 pub mod Images
 pub mod Counts
@@ -9,5 +10,7 @@ pub mod Inversion
 pub mod OneImage
 pub mod PlainTurns
 pub mod Prepared
+pub mod Pushed
 pub mod SomeBytes
+pub mod Stopped
 pub mod Calls

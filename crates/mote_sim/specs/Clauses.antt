@@ -5,7 +5,7 @@ use Rattle.mote_base.specs.Files.{Named, held}
 use Rattle.mote_base.specs.Written.{Grows, IsStartOf}
 use Rattle.mote_base.specs.declared.fault.Status.{Status}
 use Rattle.mote_base.specs.declared.fault.Status.TheVariants as status
-use Rattle.mote_layout.specs.Limits.{images_limit}
+use Rattle.mote_layout.specs.Limits.{script_limit, image_limit, images_limit}
 use Rattle.unit_code.specs.Units.{refusal, listed}
 use Rattle.module_image.specs.Contents.{Contents, first_version}
 use Rattle.module_image.specs.Reading.{image_of}
@@ -29,12 +29,12 @@ AreImages files [] [] = ⊤
 AreImages files [] (image ∷ images) = ⊥
 AreImages files (name ∷ names) [] = ⊥
 AreImages files (name ∷ names) (image ∷ images) =
-    (held files name ≡ Some image) × (length image ≤ limit_of kinds.Run 1) × AreImages files names images
+    (held files name ≡ Some image) × (length image ≤ image_limit) × AreImages files names images
 
 -- The files of `run` are a script and one image or more, up to their limit. Each was read whole and is within its
 -- limit, the script is not refused and its events are loads and unloads, each image is built, and the bytes that were
--- added are the text of a lawful run of them.
-pub record WritesRun (names : List (List ℕ)) (files : List Named) (before : List ℕ) (new : Option (List ℕ)) : Type 0 where
+-- added are the text of a lawful run of them within these limits.
+pub record WritesRun (units handler : ℕ) (names : List (List ℕ)) (files : List Named) (before : List ℕ) (new : Option (List ℕ)) : Type 0 where
   pub script_name : List ℕ
   pub image_names : List (List ℕ)
   pub named : names ≡ script_name ∷ image_names
@@ -42,7 +42,7 @@ pub record WritesRun (names : List (List ℕ)) (files : List Named) (before : Li
   pub most : length image_names ≤ images_limit
   pub script : List ℕ
   pub script_held : held files script_name ≡ Some script
-  pub script_fits : length script ≤ limit_of kinds.Run 0
+  pub script_fits : length script ≤ script_limit
   pub images : List (List ℕ)
   pub images_are : AreImages files image_names images
   pub events : List Event
@@ -51,7 +51,7 @@ pub record WritesRun (names : List (List ℕ)) (files : List Named) (before : Li
   pub loads : are_for_loader events ≡ true
   pub built : AllByRecursion (λ image. IsSome (prepared image)) images
   pub lines : List TraceLine
-  pub run : IsLawfulRun (run_input images events) lines
+  pub run : IsLawfulRun (run_input units handler images events) lines
   pub written : new ≡ Some (before ++ texts lines)
 
 -- The command has one file, which is an image with these contents. It was read whole and is within its limit.

@@ -50,9 +50,9 @@ outcome_with (Some i) = Runs i
 
 -- A script is refused before its images are looked at. It loads images by their numbers, so how many there are decides
 -- whether its lines are events.
-abbrev pub outcome_of_script : Option ScriptError → List Event → List (List ℕ) → Outcome
-outcome_of_script (Some e) events images = BadScript e
-outcome_of_script None events images = outcome_with (input_of events images)
+abbrev pub outcome_of_script : ℕ → ℕ → Option ScriptError → List Event → List (List ℕ) → Outcome
+outcome_of_script units handler (Some e) events images = BadScript e
+outcome_of_script units handler None events images = outcome_with (input_of units handler events images)
 
 -- The units of an image are listed, also those that are not built, where its code is not refused.
 abbrev pub outcome_of_code : Contents → Option CodeError → Outcome
@@ -111,8 +111,9 @@ outcome_of_sealing (Ok c) = outcome_of_original (c.rewritten || c.sealed) c
 -- By the bytes of a command's files: of `run` a script and its images, of each other command an image. (No command has
 -- other numbers of files.)
 abbrev pub outcome_by : Kind → List (List ℕ) → Outcome
-outcome_by kinds.Run (script ∷ images) = outcome_of_script (refusal_of (length images) script) (events_of script) images
-outcome_by kinds.Run [] = Unheld
+outcome_by (kinds.Run units handler) (script ∷ images) =
+    outcome_of_script units handler (refusal_of (length images) script) (events_of script) images
+outcome_by (kinds.Run units handler) [] = Unheld
 outcome_by kinds.Listing (file ∷ []) = outcome_of_image (image_of file)
 outcome_by kinds.Listing _ = Unheld
 outcome_by kinds.Upgrade (file ∷ []) = outcome_of_upgrading (image_of file)

@@ -3,7 +3,8 @@ ghost use Rattle.std.specs.Prelude.{◌≡◌, ◌≤◌, ◌⊎◌, IfOk, IsTru
 ghost use Rattle.mote_base.specs.Causes.{Rose};
 ghost use Rattle.mote_base.specs.Files.{Named};
 ghost use Rattle.mote_base.specs.Written.{Grows};
-ghost use Rattle.domain_model.specs.Command.{command_of, takes};
+ghost use Rattle.mote_layout.specs.Limits.{unit_limit, handler_limit};
+ghost use Rattle.domain_model.specs.Command.{command_of, takes, IsWithinLimits};
 ghost use Rattle.domain_model.specs.Good.{AreTimes};
 ghost use Rattle.domain_model.specs.Loader.{are_for_loader, is_for_loader, loader_events};
 ghost use Rattle.event_script.specs.Refusals.{events_of, refusal_of};
@@ -18,6 +19,7 @@ ghost use Rattle.mote_sim.specs.Pieces.{LeadsBySome};
 
 use crate::listing::list;
 use crate::one_line::{put_answer, put_script, put_size};
+use crate::operands::Operands;
 use crate::play::play;
 use crate::reading::{ReadStop, read_files};
 use crate::request::{Request, request_of};
@@ -58,14 +60,18 @@ fn is_for_loader(event: &Event) -> bool
     matches!(event.what, What::Load(_) | What::Unload(_))
 }
 
-// A mote at the start of the run of a script over its images, where all are built.
+// A mote at the start of the run of a script over its images within these limits, where all are built.
 fn prepare(
     alloc: Global,
+    limits: Limits,
     script: Script,
     images: &[Vec<u8>],
 ) -> Result<Option<Mote<PlainRunner>>, NoMemory>
-    requires { AreTimes (loader_events script.events.items) }
-    ensures { IfOk result (λ found. StandsAt found (input_of script.events.items (bytes_of images.now))) }
+    requires units { limits.units ≤ unit_limit }
+    requires handler { (1 ≤ limits.handler) × (limits.handler ≤ handler_limit) }
+    requires times { AreTimes (loader_events script.events.items) }
+    ensures { IfOk result (λ found. StandsAt found
+        (input_of limits.units limits.handler script.events.items (bytes_of images.now))) }
 {
     if !are_for_loader(&script.events) {
         return Ok(None);
@@ -74,22 +80,26 @@ fn prepare(
         None => return Ok(None),
         Some(images) => images,
     };
-    let limits = Limits {
-        units: DEFAULT_UNITS,
-        handler: DEFAULT_HANDLER_UNITS,
-    };
     let runner = PlainRunner::new(alloc)?;
     let mote = Mote::new(alloc, images, script, limits, runner)?;
     Ok(Some(mote))
 }
 
 // Runs the events of a script over its images. All memory is taken before the first line is put.
-fn run_script<K: Sink>(alloc: Global, script: Script, images: &[Vec<u8>], out: &mut K) -> Status
-    requires { AreTimes (loader_events script.events.items) }
+fn run_script<K: Sink>(
+    alloc: Global,
+    limits: Limits,
+    script: Script,
+    images: &[Vec<u8>],
+    out: &mut K,
+) -> Status
+    requires units { limits.units ≤ unit_limit }
+    requires handler { (1 ≤ limits.handler) × (limits.handler ≤ handler_limit) }
+    requires times { AreTimes (loader_events script.events.items) }
     ensures { Ends K.written K.faults (LeadsBySome K.leads) out.old out.new 0 0
-        (Answers (outcome_with (input_of script.events.items (bytes_of images.now)))) result }
+        (Answers (outcome_with (input_of limits.units limits.handler script.events.items (bytes_of images.now)))) result }
 {
-    let mut mote = match prepare(alloc, script, images) {
+    let mut mote = match prepare(alloc, limits, script, images) {
         Err(_) => return Status::NoMemory,
         Ok(None) => return put_answer(out, b"refused unbuilt\n", Status::Refused),
         Ok(Some(mote)) => mote,
@@ -104,14 +114,22 @@ fn run_script<K: Sink>(alloc: Global, script: Script, images: &[Vec<u8>], out: &
     }
 }
 
-// Runs a script over its images, where it is one.
-fn run<K: Sink>(alloc: Global, script: &[u8], images: &[Vec<u8>], out: &mut K) -> Status
+// Runs a script over its images within these limits, where it is one.
+fn run<K: Sink>(
+    alloc: Global,
+    limits: Limits,
+    script: &[u8],
+    images: &[Vec<u8>],
+    out: &mut K,
+) -> Status
+    requires units { limits.units ≤ unit_limit }
+    requires handler { (1 ≤ limits.handler) × (limits.handler ≤ handler_limit) }
     ensures { Ends K.written K.faults (LeadsBySome K.leads) out.old out.new 0 0
-        (Answers (outcome_of_script (refusal_of (length images.now) script.now) (events_of script.now)
-        (bytes_of images.now))) result }
+        (Answers (outcome_of_script limits.units limits.handler (refusal_of (length images.now) script.now)
+        (events_of script.now) (bytes_of images.now))) result }
 {
     match parse_script(alloc, script, images.len()) {
-        Ok(script) => run_script(alloc, script, images, out),
+        Ok(script) => run_script(alloc, limits, script, images, out),
         Err(ScriptError::NoMemory) => Status::NoMemory,
         Err(refusal) => put_script(out, &refusal),
     }
@@ -119,13 +137,14 @@ fn run<K: Sink>(alloc: Global, script: &[u8], images: &[Vec<u8>], out: &mut K) -
 
 // Answers a command whose files have been read.
 fn perform<K: Sink>(alloc: Global, kind: Kind, files: &[Vec<u8>], out: &mut K) -> Status
-    requires { IsTrue (takes kind (length files.now)) }
+    requires operands { IsTrue (takes kind (length files.now)) }
+    requires limits { IsWithinLimits kind }
     ensures { Ends K.written K.faults (LeadsBySome K.leads) out.old out.new 0 0
         (Answers (outcome_by kind (bytes_of files.now))) result }
 {
     match kind {
-        Kind::Run => match files {
-            [script, images @ ..] => run(alloc, script, images, out),
+        Kind::Run { units, handler } => match files {
+            [script, images @ ..] => run(alloc, Limits { units, handler }, script, images, out),
             [] => unreachable!(),
         },
         Kind::Listing => match files {
@@ -147,12 +166,13 @@ fn perform<K: Sink>(alloc: Global, kind: Kind, files: &[Vec<u8>], out: &mut K) -
 fn answer_command<F: Shelf, K: Sink>(
     alloc: Global,
     kind: Kind,
-    names: &[Word],
+    names: &Operands<'_>,
     shelf: &mut F,
     out: &mut K,
 ) -> Status
     requires names { AdmitsEach (F.admits shelf.old) names.now }
     requires operands { IsTrue (takes kind (length names.now)) }
+    requires limits { IsWithinLimits kind }
     ensures ends { Ends K.written K.faults (LeadsBySome K.leads) out.old out.new
         (F.faults shelf.old) (F.faults shelf.new)
         (AnswersOver (F.files shelf.old) (Came F.leads shelf.old shelf.new)
@@ -179,14 +199,15 @@ fn answer<F: Shelf, K: Sink>(alloc: Global, words: &[Word], shelf: &mut F, out: 
 {
     match request_of(words) {
         Request::Usage => put_answer(out, b"mote: usage\n", Status::Usage),
-        Request::Command(kind, names) => answer_command(alloc, kind, names, shelf, out),
+        Request::Command(kind, names) => answer_command(alloc, kind, &names, shelf, out),
     }
 }
 
 /// Does all that the program does: reads the words, reads the files that they name, and writes the answer.
 ///
 /// The words are those behind the program's name. `run SCRIPT IMAGE..` runs a script over 1 to 64 images, which
-/// it loads and unloads, and writes the trace. `list IMAGE` writes the units of an image, a line for each.
+/// it loads and unloads, and writes the trace; `--units N` limits the units of the run, and `--handler H` those of one
+/// handler, beyond which the watchdog stops it. `list IMAGE` writes the units of an image, a line for each.
 /// `upgrade IMAGE` writes the file of an image of the first version in the second, and `seal IMAGE` that of an image
 /// which is neither rewritten nor sealed, sealed. All memory is taken before the first byte is written.
 pub fn mote_main<F: Shelf, K: Sink>(
@@ -200,10 +221,11 @@ pub fn mote_main<F: Shelf, K: Sink>(
 
     // Done: every file was read whole. Of `run` the bytes added are the trace of a lawful run of them, and of `list`
     // they are the lines of the units of the image. Of `upgrade` and `seal` they are the file of the image asked for.
-    ensures headline { result ≡ Status.Done → (names : List (List ℕ)) (fs : List Named) (before : List ℕ) →
-        command_of words.now ≡ Some (record { kind = Kind.Run; files = names }) →
+    ensures headline { result ≡ Status.Done →
+        (units handler : ℕ) (names : List (List ℕ)) (fs : List Named) (before : List ℕ) →
+        command_of words.now ≡ Some (record { kind = Kind.Run units handler; files = names }) →
         F.files shelf.old ≡ Some fs → K.written out.old ≡ Some before →
-        WritesRun names fs before (K.written out.new) }
+        WritesRun units handler names fs before (K.written out.new) }
     ensures listing { result ≡ Status.Done → (names : List (List ℕ)) (fs : List Named) (before : List ℕ) →
         command_of words.now ≡ Some (record { kind = Kind.Listing; files = names }) →
         F.files shelf.old ≡ Some fs → K.written out.old ≡ Some before →

@@ -10,8 +10,10 @@
 
 mod answer;
 mod certain;
+mod given;
 mod listing;
 mod one_line;
+mod operands;
 mod play;
 mod reading;
 mod request;

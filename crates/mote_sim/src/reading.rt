@@ -4,6 +4,7 @@ ghost use Rattle.mote_sim.specs.declared.reading.ReadStop.TheVariants.{Memory, F
 ghost use Rattle.mote_sim.specs.Asking.{AsksFile, AsksFiles};
 ghost use Rattle.mote_sim.specs.Reading.{Reads, Gathers, AdmitsEach};
 
+use crate::operands::Operands;
 use crate::request::limit_of;
 use domain_model::Kind;
 use mote_base::{Failed, Shelf, Word};
@@ -84,7 +85,7 @@ pub fn read_files<F: Shelf>(
     alloc: Global,
     shelf: &mut F,
     kind: Kind,
-    names: &[Word],
+    names: &Operands<'_>,
 ) -> Result<Vec<Vec<u8>>, ReadStop>
     requires { AdmitsEach (F.admits shelf.old) names.now }
     ensures count { IfOk result (λ files. length files.items ≡ length names.now) }
@@ -94,7 +95,8 @@ pub fn read_files<F: Shelf>(
     ensures later { F.faults shelf.old ≤ F.faults shelf.new }
 {
     let mut files = Vec::new(alloc);
-    for (number, name) in names.iter().enumerate() {
+    for number in 0..names.len() {
+        let name = names.at(number);
         match read_file(alloc, shelf, name, number, limit_of(kind, number)) {
             Ok(bytes) => files.push(bytes)?,
             Err(stop) => return Err(stop),

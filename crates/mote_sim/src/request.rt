@@ -1,46 +1,28 @@
 //! The words of the command line.
-ghost use Rattle.std.specs.Prelude.{◌≡◌, length};
-ghost use Rattle.std.specs.List.{list_any};
-ghost use Rattle.domain_model.specs.Command.{is_option, kind_of, takes, limit_of, command_of};
-ghost use Rattle.mote_sim.specs.Request.{asked, HasItsOperands};
+ghost use Rattle.std.specs.Prelude.{◌≡◌, Some};
+ghost use Rattle.domain_model.specs.Command.{is_option, kind_of, tool_of, takes, limit_of, given_by, nothing_given, command_with, command_of};
+ghost use Rattle.mote_sim.specs.Request.{command_parts, asked, HasItsOperands, HasItsLimits};
 
+use crate::given::Given;
+use crate::operands::Operands;
 use domain_model::Kind;
 use mote_base::Word;
-use mote_layout::{IMAGE_BYTES, IMAGES, SCRIPT_BYTES};
+use mote_layout::{DEFAULT_HANDLER_UNITS, DEFAULT_UNITS, IMAGE_BYTES, IMAGES, SCRIPT_BYTES};
 
 /// What the words ask for.
-#[derive(Clone, Copy)]
+#[derive(Drop)]
 pub enum Request<'a> {
     /// They are no command.
     Usage,
     /// The command of that kind with these files.
-    Command(Kind, &'a [Word]),
+    Command(Kind, Operands<'a>),
 }
 
-fn is_option(word: &Word) -> bool
-    ensures { result ≡ is_option word.now }
+// The command of that name which takes no options.
+fn tool_of(verb: &Word) -> Option<Kind>
+    ensures { result ≡ tool_of verb.now }
 {
-    let text = word.text().as_bytes();
-    text.len() > 1 && text[0] == b'-'
-}
-
-fn has_option(words: &[Word]) -> bool
-    ensures { result ≡ list_any is_option words.now }
-{
-    for word in words {
-        if is_option(word) {
-            return true;
-        }
-    }
-    false
-}
-
-fn kind_of(verb: &Word) -> Option<Kind>
-    ensures { result ≡ kind_of verb.now }
-{
-    if verb.text() == "run" {
-        Some(Kind::Run)
-    } else if verb.text() == "list" {
+    if verb.text() == "list" {
         Some(Kind::Listing)
     } else if verb.text() == "upgrade" {
         Some(Kind::Upgrade)
@@ -51,12 +33,28 @@ fn kind_of(verb: &Word) -> Option<Kind>
     }
 }
 
+// The command of that name with these limits.
+fn kind_of(verb: &Word, units: Option<u64>, handler: Option<u64>) -> Option<Kind>
+    ensures { result ≡ kind_of verb.now units handler }
+{
+    if verb.text() == "run" {
+        return Some(Kind::Run {
+            units: units.unwrap_or(DEFAULT_UNITS),
+            handler: handler.unwrap_or(DEFAULT_HANDLER_UNITS),
+        });
+    }
+    match (units, handler) {
+        (None, None) => tool_of(verb),
+        _ => None,
+    }
+}
+
 /// Whether a command takes so many files: `run` a script and 1 to 64 images, and each other command an image.
 fn takes(kind: Kind, count: usize) -> bool
     ensures { result ≡ takes kind count }
 {
     match kind {
-        Kind::Run => (2..=1 + IMAGES).contains(&count),
+        Kind::Run { .. } => (2..=1 + IMAGES).contains(&count),
         Kind::Listing | Kind::Upgrade | Kind::Seal => count == 1,
     }
 }
@@ -66,7 +64,7 @@ pub fn limit_of(kind: Kind, number: usize) -> usize
     ensures { result ≡ limit_of kind number }
 {
     match kind {
-        Kind::Run => {
+        Kind::Run { .. } => {
             if number == 0 {
                 SCRIPT_BYTES
             } else {
@@ -77,26 +75,41 @@ pub fn limit_of(kind: Kind, number: usize) -> usize
     }
 }
 
+// What the words behind the first one say.
+fn given_by<'a>(verb: &'a Word, words: &'a [Word]) -> Option<Given<'a>>
+    ensures { result ≡ given_by words.now (Some nothing_given) }
+{
+    let mut given = Given::nothing(verb);
+    for word in words {
+        given.take(word)?;
+    }
+    Some(given)
+}
+
+// The command, where the words are one.
+fn command_of<'a>(verb: &'a Word, words: &'a [Word]) -> Option<(Kind, Operands<'a>)>
+    ensures { command_parts result ≡ command_with verb.now (given_by words.now (Some nothing_given)) }
+{
+    let given = given_by(verb, words)?;
+    if given.waits() {
+        return None;
+    }
+    let kind = kind_of(verb, given.units(), given.handler())?;
+    let files = given.into_operands();
+    takes(kind, files.len()).then_some((kind, files))
+}
+
+/// What the words of the command line ask for.
 pub fn request_of(words: &[Word]) -> Request<'_>
     ensures asked { asked result ≡ command_of words.now }
     ensures operands { HasItsOperands result }
+    ensures limits { HasItsLimits result }
 {
     match words {
         [] => Request::Usage,
-        [verb, files @ ..] => {
-            if has_option(files) {
-                return Request::Usage;
-            }
-            match kind_of(verb) {
-                None => Request::Usage,
-                Some(kind) => {
-                    if takes(kind, files.len()) {
-                        Request::Command(kind, files)
-                    } else {
-                        Request::Usage
-                    }
-                }
-            }
-        }
+        [verb, words @ ..] => match command_of(verb, words) {
+            None => Request::Usage,
+            Some((kind, files)) => Request::Command(kind, files),
+        },
     }
 }

@@ -1,6 +1,7 @@
 pub mod Astray
 pub mod Chain
 pub mod Entered
+pub mod Entries
 pub mod FirstItem
 pub mod FirstLaw
 pub mod FirstRefused

@@ -1,3 +1,4 @@
+pub mod Beside
 pub mod Ends
 pub mod Errors
 pub mod Items
@@ -10,5 +11,7 @@ pub mod Proper
 pub mod Refusals
 pub mod Sound
 pub mod Spelled
+pub mod Spelling
 pub mod Targets
+pub mod Templates
 pub mod Units

@@ -11,6 +11,7 @@
 
 mod bank;
 mod error;
+mod form;
 mod items;
 mod kinds;
 mod laws;
@@ -22,8 +23,9 @@ mod unit;
 
 pub use bank::BankCode;
 pub use error::CodeError;
+pub use form::Form;
 pub use kinds::{Aim, Piece, Standing, standing_of};
-pub use laws::one_reading;
+pub use laws::{entries_stand, one_reading};
 pub use list::UnitList;
 pub use reading::units;
 pub use targets::{number_of, number_reached, reached};

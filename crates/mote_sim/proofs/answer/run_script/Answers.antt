@@ -19,8 +19,8 @@ play-requires-clause-going g c = goes_on (standing _ _ (rw c.in-Ok-Some.field-0-
 
 pub returns-in-Ok-play : goal.returns-in-Ok-play
 returns-in-Ok-play g c =
-    played_answers (input_of c.args.script.events.items (bytes_of c.args.images.now)) (standing _ _ (rw c.in-Ok-Some.field-0-is at c.in-Ok-Some.ensures)) c.in-Ok-play.ensures.played
+    played_answers (input_of c.args.limits.units c.args.limits.handler c.args.script.events.items (bytes_of c.args.images.now)) (standing _ _ (rw c.in-Ok-Some.field-0-is at c.in-Ok-Some.ensures)) c.in-Ok-play.ensures.played
 
 pub returns : goal.returns
 returns g c =
-    stopped_cuts (input_of c.args.script.events.items (bytes_of c.args.images.now)) (standing _ _ (rw c.in-Ok-Some.field-0-is at c.in-Ok-Some.ensures)) c.in-Err-play.ensures.stopped
+    stopped_cuts (input_of c.args.limits.units c.args.limits.handler c.args.script.events.items (bytes_of c.args.images.now)) (standing _ _ (rw c.in-Ok-Some.field-0-is at c.in-Ok-Some.ensures)) c.in-Err-play.ensures.stopped

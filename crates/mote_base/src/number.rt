@@ -1,9 +1,9 @@
-//! The numbers of a script.
+//! Numbers in texts.
 ghost use Rattle.std.specs.Prelude.{◌≡◌, ◌≤◌, length, IfSome, IsTrue};
 ghost use Rattle.std.specs.List.{list_all};
-ghost use Rattle.event_script.specs.Numbers.{is_digit, is_number, value_of, number_in, most_digits};
+ghost use Rattle.mote_base.specs.Numbers.{is_digit, is_number, value_of, number_in, most_digits};
 
-/// The most digits that a number of a script has.
+/// The most digits that a number has.
 const MOST_DIGITS: usize = 10;
 
 // Whether every byte is a decimal digit.

@@ -1,0 +1,486 @@
+-- The command that is read from the words is the one that the rules give, and there is no other.
+use Rattle.std.specs.Prelude.{IsTrue, unwrap_or, codes, nat_le, nat_lt, ◌&&◌, ◌==◌}
+use Rattle.std.specs.List.{AllByRecursion}
+use Rattle.std.specs.Str.{bytes_eq}
+use Rattle.std.proofs.Common.{◌≡◌, ◌∙◌, ℕ, ◌+◌, ◌≤◌, refl, sym, ap, subst, arith, Bool, true, false, if◌then◌else◌, List, [], ◌∷◌, ◌++◌, length, Option, Some, None, append_assoc, append-nil, length-append}
+use Rattle.std.proofs.lemmas.Bool.Decides.{nat_tests}
+use Rattle.std.proofs.lemmas.Slice.Eq.{bytes_eq-Decides}
+use Rattle.mote_base.specs.Numbers.{number_in, is_number}
+use Rattle.mote_base.specs.Numbers.{value_of as decimal_value}
+use Rattle.mote_layout.specs.Limits.{images_limit, unit_limit, default_units, handler_limit, default_handler_units}
+use Rattle.domain_model.specs.declared.request.Kind.{Kind}
+use Rattle.domain_model.specs.declared.request.Kind.TheVariants.{Run, Listing, Upgrade, Seal}
+use Rattle.domain_model.specs.declared.request.Setting.{Setting}
+use Rattle.domain_model.specs.declared.request.Setting.TheVariants.{Units, Handler}
+use Rattle.domain_model.specs.declared.request.Place.{Place}
+use Rattle.domain_model.specs.declared.request.Place.TheVariants.{Options, Value, Operands}
+use Rattle.domain_model.specs.Command.{Command, Item, Operand, Joined, Apart, IsItem, IsCommand, Given, CommandsAreByRules, CommandsAreWithinLimits, IsWithinLimits, greatest, without_limits, tool_of, takes, kind_of, is_option, end_of_options, name_of, front_of, value_of, written, operands, value_for, values, none_or_one, ended, nothing_given, units_given, handler_given, with_value, with_operand, with_place, behind_front, with_joined, with_option, with_any, with_word, given_by, with_files, command_at, command_with, command_of}
+
+-- Texts that are the same, and texts that are not.
+same_text : (xs ys : List ℕ) → bytes_eq xs ys ≡ true → xs ≡ ys
+same_text xs ys e = (bytes_eq-Decides xs ys).0 e
+
+-- What stands behind a front stands behind it.
+front_where : (b : Bool) (f c : ℕ) (fs cs text : List ℕ) → (f == c) ≡ b → (if b then behind_front fs cs else None) ≡ Some text → (behind_front fs cs ≡ Some text → cs ≡ fs ++ text) → c ∷ cs ≡ f ∷ (fs ++ text)
+front_where true f c fs cs text test e rest =
+    let same : c ≡ f = grind (arith, nat_tests) in
+    ap (λ x. x ∷ cs) same ∙ ap (λ xs. f ∷ xs) (rest e)
+front_where false f c fs cs text test e rest = absurd (cc)
+
+pub has_front : (front word text : List ℕ) → behind_front front word ≡ Some text → word ≡ front ++ text
+has_front [] word text e = cc
+has_front (f ∷ fs) [] text e = absurd (cc)
+has_front (f ∷ fs) (c ∷ cs) text e = front_where (f == c) f c fs cs text refl e (λ h. has_front fs cs text h)
+
+-- Where nothing may stand, nothing may stand behind it.
+pub none_given : (words : List (List ℕ)) → given_by words None ≡ None
+none_given [] = refl
+none_given (word ∷ words) = none_given words
+
+stuck : (words : List (List ℕ)) (t : Given) → given_by words None ≡ Some t → ⊥
+stuck words t e = let none : None ≡ Some t = sym (none_given words) ∙ e in cc
+
+-- From the words to the rules.
+
+record Sorted (words : List (List ℕ)) (g t : Given) : Type 0 where
+  items : List Item
+  behind : Option (List (List ℕ))
+  words_are : words ≡ written items ++ ended behind
+  each : AllByRecursion IsItem items
+  units : none_or_one t.units ≡ none_or_one g.units ++ values Units items
+  handler : none_or_one t.handler ≡ none_or_one g.handler ++ values Handler items
+  files : t.files ≡ g.files ++ (operands items ++ unwrap_or behind [])
+
+-- The text is the value of that option, and then come these words.
+record Took (setting : Setting) (text : List ℕ) (words : List (List ℕ)) (g t : Given) : Type 0 where
+  value : ℕ
+  gives : value_of setting text ≡ Some value
+  items : List Item
+  behind : Option (List (List ℕ))
+  words_are : words ≡ written items ++ ended behind
+  each : AllByRecursion IsItem items
+  units : none_or_one t.units ≡ none_or_one g.units ++ (value_for Units setting value ++ values Units items)
+  handler : none_or_one t.handler ≡ none_or_one g.handler ++ (value_for Handler setting value ++ values Handler items)
+  files : t.files ≡ g.files ++ (operands items ++ unwrap_or behind [])
+
+record Valued (setting : Setting) (words : List (List ℕ)) (g t : Given) : Type 0 where
+  text : List ℕ
+  rest : List (List ℕ)
+  are : words ≡ text ∷ rest
+  took : Took setting text rest g t
+
+record Behind (words : List (List ℕ)) (g t : Given) : Type 0 where
+  units : t.units ≡ g.units
+  handler : t.handler ≡ g.handler
+  files : t.files ≡ g.files ++ words
+
+abbrev From : Place → List (List ℕ) → Given → Given → Type 0
+From Options words g t = Sorted words g t
+From (Value setting) words g t = Valued setting words g t
+From Operands words g t = Behind words g t
+
+abbrev IsOver : Place → Type 0
+IsOver Options = Unit {0}
+IsOver (Value setting) = ⊥
+IsOver Operands = Unit {0}
+
+abbrev Tells : List (List ℕ) → Given → Type 0
+Tells words t = (g : Given) → given_by words (Some g) ≡ Some t → From g.place words g t
+
+sorted_start : (g : Given) → Sorted [] g g
+sorted_start g = record {
+  items = [];
+  behind = None;
+  words_are = refl;
+  each = tt;
+  units = sym (append-nil (none_or_one g.units));
+  handler = sym (append-nil (none_or_one g.handler));
+  files = sym (append-nil g.files);
+}
+
+ends : (p : Place) (g : Given) → IsOver p → From p [] g g
+ends Options g over = sorted_start g
+ends (Value setting) g over = absurd over
+ends Operands g over = record { units = refl; handler = refl; files = sym (append-nil g.files) }
+
+module _ (word : List ℕ) (words : List (List ℕ)) (t : Given) (ih : Tells words t) where
+  abbrev more : Given → Given
+  more g = record { place = g.place; units = g.units; handler = g.handler; files = g.files ++ word ∷ [] }
+
+  operand : (b : Bool) (g : Given) → given_by words (if b then Some (more g) else None) ≡ Some t → From g.place words (more g) t
+  operand true g e = ih (more g) e
+  operand false g e = absurd (stuck words t e)
+
+  took_units : (o : Option ℕ) (text : List ℕ) (value : ℕ) (g : Given) → g.units ≡ o → value_of Units text ≡ Some value → given_by words (units_given o value g) ≡ Some t → Took Units text words g t
+  took_units None text value g is gives e =
+      let s = ih (record { place = Options; units = Some value; handler = g.handler; files = g.files }) e in
+      record {
+        value = value;
+        gives = gives;
+        items = s.items;
+        behind = s.behind;
+        words_are = s.words_are;
+        each = s.each;
+        units = s.units ∙ ap (λ (o : Option ℕ). none_or_one o ++ (value ∷ values Units s.items)) (sym is);
+        handler = s.handler;
+        files = s.files;
+      }
+  took_units (Some before) text value g is gives e = absurd (stuck words t e)
+
+  took_handler : (o : Option ℕ) (text : List ℕ) (value : ℕ) (g : Given) → g.handler ≡ o → value_of Handler text ≡ Some value → given_by words (handler_given o value g) ≡ Some t → Took Handler text words g t
+  took_handler None text value g is gives e =
+      let s = ih (record { place = Options; units = g.units; handler = Some value; files = g.files }) e in
+      record {
+        value = value;
+        gives = gives;
+        items = s.items;
+        behind = s.behind;
+        words_are = s.words_are;
+        each = s.each;
+        units = s.units;
+        handler = s.handler ∙ ap (λ (o : Option ℕ). none_or_one o ++ (value ∷ values Handler s.items)) (sym is);
+        files = s.files;
+      }
+  took_handler (Some before) text value g is gives e = absurd (stuck words t e)
+
+  took : (setting : Setting) (o : Option ℕ) (text : List ℕ) (g : Given) → value_of setting text ≡ o → given_by words (with_value setting o g) ≡ Some t → Took setting text words g t
+  took Units None text g gives e = absurd (stuck words t e)
+  took Handler None text g gives e = absurd (stuck words t e)
+  took Units (Some value) text g gives e = took_units g.units text value g refl gives e
+  took Handler (Some value) text g gives e = took_handler g.handler text value g refl gives e
+
+  with_item : (item : Item) (g : Given) (s : Sorted words (more g) t) → item ≡ Operand word → is_option word ≡ false → Sorted (word ∷ words) g t
+  with_item item g s is plain = record {
+    items = Operand word ∷ s.items;
+    behind = s.behind;
+    words_are = ap (λ (ws : List (List ℕ)). word ∷ ws) s.words_are;
+    each = (plain, s.each);
+    units = s.units;
+    handler = s.handler;
+    files = s.files ∙ append_assoc g.files (word ∷ []) (operands s.items ++ unwrap_or s.behind []);
+  }
+
+  apart : (setting : Setting) (g : Given) → word ≡ name_of setting → Valued setting words (with_place (Value setting) g) t → Sorted (word ∷ words) g t
+  apart setting g is v = record {
+    items = Apart setting v.text v.took.value ∷ v.took.items;
+    behind = v.took.behind;
+    words_are =
+        ap (λ (w : List ℕ). w ∷ words) is ∙ ap (λ (ws : List (List ℕ)). name_of setting ∷ ws) v.are
+        ∙ ap (λ (ws : List (List ℕ)). name_of setting ∷ v.text ∷ ws) v.took.words_are;
+    each = (v.took.gives, v.took.each);
+    units = v.took.units;
+    handler = v.took.handler;
+    files = v.took.files;
+  }
+
+  joined : (setting : Setting) (text : List ℕ) (g : Given) → word ≡ front_of setting ++ text → Took setting text words g t → Sorted (word ∷ words) g t
+  joined setting text g is v = record {
+    items = Joined setting text v.value ∷ v.items;
+    behind = v.behind;
+    words_are = ap (λ (w : List ℕ). w ∷ words) is ∙ ap (λ (ws : List (List ℕ)). (front_of setting ++ text) ∷ ws) v.words_are;
+    each = (v.gives, v.each);
+    units = v.units;
+    handler = v.handler;
+    files = v.files;
+  }
+
+  by_front : (a b : Option (List ℕ)) (g : Given) → behind_front (front_of Units) word ≡ a → behind_front (front_of Handler) word ≡ b → given_by words (with_joined a b g) ≡ Some t → Sorted (word ∷ words) g t
+  by_front (Some text) b g units handler e =
+      joined Units text g (has_front (front_of Units) word text units) (took Units (value_of Units text) text g refl e)
+  by_front None (Some text) g units handler e =
+      joined Handler text g (has_front (front_of Handler) word text handler) (took Handler (value_of Handler text) text g refl e)
+  by_front None None g units handler e = absurd (stuck words t e)
+
+  by_name : (a b : Bool) (g : Given) → bytes_eq word (name_of Units) ≡ a → bytes_eq word (name_of Handler) ≡ b → given_by words (if a then Some (with_place (Value Units) g) else (if b then Some (with_place (Value Handler) g) else with_joined (behind_front (front_of Units) word) (behind_front (front_of Handler) word) g)) ≡ Some t → Sorted (word ∷ words) g t
+  by_name true b g units handler e = apart Units g (same_text word (name_of Units) units) (ih (with_place (Value Units) g) e)
+  by_name false true g units handler e = apart Handler g (same_text word (name_of Handler) handler) (ih (with_place (Value Handler) g) e)
+  by_name false false g units handler e =
+      by_front (behind_front (front_of Units) word) (behind_front (front_of Handler) word) g refl refl e
+
+  by_sort : (a b : Bool) (g : Given) → g.place ≡ Options → bytes_eq word end_of_options ≡ a → is_option word ≡ b → given_by words (if a then Some (with_place Operands g) else (if b then with_option word g else with_operand word g)) ≡ Some t → Sorted (word ∷ words) g t
+  by_sort true b g at is plain e =
+      let v : Behind words (with_place Operands g) t = ih (with_place Operands g) e in
+      record {
+        items = [];
+        behind = Some words;
+        words_are = ap (λ (w : List ℕ). w ∷ words) (same_text word end_of_options is);
+        each = tt;
+        units = ap none_or_one v.units ∙ sym (append-nil (none_or_one g.units));
+        handler = ap none_or_one v.handler ∙ sym (append-nil (none_or_one g.handler));
+        files = v.files;
+      }
+  by_sort false true g at is plain e = by_name (bytes_eq word (name_of Units)) (bytes_eq word (name_of Handler)) g refl refl e
+  by_sort false false g at is plain e =
+      let s : Sorted words (more g) t = subst (λ (p : Place). From p words (more g) t) at (operand (nat_le (length g.files) images_limit) g e) in
+      with_item (Operand word) g s refl plain
+
+  by_place : (p : Place) (g : Given) → g.place ≡ p → given_by words (with_word p word g) ≡ Some t → From p (word ∷ words) g t
+  by_place Options g at e = by_sort (bytes_eq word end_of_options) (is_option word) g at refl refl e
+  by_place (Value setting) g at e = record { text = word; rest = words; are = refl; took = took setting (value_of setting word) word g refl e }
+  by_place Operands g at e =
+      let s : Behind words (more g) t = subst (λ (p : Place). From p words (more g) t) at (operand (nat_le (length g.files) images_limit) g e) in
+      record { units = s.units; handler = s.handler; files = s.files ∙ append_assoc g.files (word ∷ []) words }
+
+tells : (t : Given) → IsOver t.place → (words : List (List ℕ)) → Tells words t
+tells t over [] g e =
+    let same : t ≡ g = cc in
+    subst (λ (x : Given). From g.place [] g x) (sym same) (ends g.place g (subst (λ (x : Given). IsOver x.place) same over))
+tells t over (word ∷ words) g e = by_place word words t (tells t over words) g.place g refl e
+
+-- Words that are read to their end are the command that the rules give.
+record Taken (kind : Option Kind) (files : List (List ℕ)) (command : Command) : Type 0 where
+  named : kind ≡ Some command.kind
+  files_are : command.files ≡ files
+  number : IsTrue (takes command.kind (length command.files))
+
+taken_where : (b : Bool) (kind : Kind) (files : List (List ℕ)) (command : Command) → takes kind (length files) ≡ b → (if b then Some (record { kind = kind; files = files }) else None) ≡ Some command → Taken (Some kind) files command
+taken_where true kind files command test e =
+    let made : Command = record { kind = kind; files = files } in
+    let same : made ≡ command = cc in
+    record {
+      named = ap (λ (c : Command). Some c.kind) same;
+      files_are = ap (λ (c : Command). c.files) (sym same);
+      number = subst (λ (c : Command). IsTrue (takes c.kind (length c.files))) same test;
+    }
+taken_where false kind files command test e = absurd (cc)
+
+taken : (kind : Option Kind) (files : List (List ℕ)) (command : Command) → with_files kind files ≡ Some command → Taken kind files command
+taken None files command e = absurd (cc)
+taken (Some kind) files command e = taken_where (takes kind (length files)) kind files command refl e
+
+over_where : (p : Place) (verb : List ℕ) (g : Given) (command : Command) → command_at p verb g ≡ Some command → IsOver p × Taken (kind_of verb g.units g.handler) g.files command
+over_where Options verb g command e = (tt, taken (kind_of verb g.units g.handler) g.files command e)
+over_where (Value setting) verb g command e = absurd (cc)
+over_where Operands verb g command e = (tt, taken (kind_of verb g.units g.handler) g.files command e)
+
+ruled_where : (o : Option Given) (verb : List ℕ) (words : List (List ℕ)) (command : Command) → given_by words (Some nothing_given) ≡ o → command_with verb o ≡ Some command → IsCommand (verb ∷ words) command
+ruled_where None verb words command read e = absurd (cc)
+ruled_where (Some t) verb words command read e =
+    let over = over_where t.place verb t command e in
+    let s : Sorted words nothing_given t = tells t over.0 words nothing_given read in
+    record {
+      verb = verb;
+      items = s.items;
+      behind = s.behind;
+      words_are = ap (λ (ws : List (List ℕ)). verb ∷ ws) s.words_are;
+      each = s.each;
+      units = t.units;
+      units_once = s.units;
+      handler = t.handler;
+      handler_once = s.handler;
+      named = over.1.named;
+      files_are = over.1.files_are ∙ s.files;
+      number = over.1.number;
+    }
+
+ruled : (words : List (List ℕ)) (command : Command) → command_of words ≡ Some command → IsCommand words command
+ruled [] command e = absurd (cc)
+ruled (verb ∷ words) command e = ruled_where (given_by words (Some nothing_given)) verb words command refl e
+
+-- From the rules to the words.
+
+abbrev at : Place → Option ℕ → Option ℕ → List (List ℕ) → Given
+at place units handler files = record { place = place; units = units; handler = handler; files = files }
+
+-- A word that does not look like an option ends none.
+not_true : (b : Bool) → (b ≡ true → ⊥) → b ≡ false
+not_true true never = absurd (never refl)
+not_true false never = refl
+
+no_end : (word : List ℕ) → is_option word ≡ false → bytes_eq word end_of_options ≡ false
+no_end word plain =
+    not_true (bytes_eq word end_of_options) (λ e.
+    let looks : is_option word ≡ true = subst (λ (w : List ℕ). is_option w ≡ true) (sym (same_text word end_of_options e)) refl in
+    let both : true ≡ false = sym looks ∙ plain in
+    cc)
+
+-- A word behind two of `-` looks like an option.
+looks_so : (rest : List ℕ) → is_option (45 ∷ 45 ∷ rest) ≡ true
+looks_so rest = let long : nat_lt 1 (length (45 ∷ 45 ∷ rest)) ≡ true = grind (arith, nat_tests) in rw long refl
+
+-- A value may stand where none stood, and then it is the one.
+same_option : (a b : Option ℕ) → none_or_one a ≡ none_or_one b → a ≡ b
+same_option None None e = refl
+same_option None (Some n) e = absurd (cc)
+same_option (Some m) None e = absurd (cc)
+same_option (Some m) (Some n) e = let same : m ≡ n = cc in ap (λ k. Some k) same
+
+none_stood : (now before : Option ℕ) (value : ℕ) (rest : List ℕ) → none_or_one now ≡ none_or_one before ++ (value ∷ rest) → before ≡ None
+none_stood now None value rest e = refl
+none_stood None (Some m) value rest e = absurd (cc)
+none_stood (Some n) (Some m) value rest e = absurd (cc)
+
+-- One more operand may stand.
+room : (files : List (List ℕ)) (word : List ℕ) (rest : List (List ℕ)) → length files + length (word ∷ rest) ≤ images_limit + 1 → nat_le (length files) images_limit ≡ true
+room files word rest few = let less : length files ≤ images_limit = omega (arith, few) in grind (arith, nat_tests, less)
+
+more_room : (files : List (List ℕ)) (word : List ℕ) (rest : List (List ℕ)) → length files + length (word ∷ rest) ≤ images_limit + 1 → length (files ++ word ∷ []) + length rest ≤ images_limit + 1
+more_room files word rest few = omega (arith, few, length-append files (word ∷ []))
+
+-- the operands behind the end of the options
+makes_behind : (words : List (List ℕ)) (units handler : Option ℕ) (files : List (List ℕ)) → length files + length words ≤ images_limit + 1 → given_by words (Some (at Operands units handler files)) ≡ Some (at Operands units handler (files ++ words))
+makes_behind [] units handler files few = ap (λ (fs : List (List ℕ)). Some (at Operands units handler fs)) (sym (append-nil files))
+makes_behind (word ∷ words) units handler files few =
+    ap (λ (b : Bool). given_by words (if b then Some (at Operands units handler (files ++ word ∷ [])) else None)) (room files word words few)
+    ∙ makes_behind words units handler (files ++ word ∷ []) (more_room files word words few)
+    ∙ ap (λ (fs : List (List ℕ)). Some (at Operands units handler fs)) (append_assoc files (word ∷ []) words)
+
+abbrev place_behind : Option (List (List ℕ)) → Place
+place_behind None = Options
+place_behind (Some words) = Operands
+
+abbrev files_of : List Item → Option (List (List ℕ)) → List (List ℕ)
+files_of items behind = operands items ++ unwrap_or behind []
+
+-- What stands behind two of `-` is an option.
+as_option : (rest : List ℕ) (g : Given) → bytes_eq (45 ∷ 45 ∷ rest) end_of_options ≡ false → with_any (45 ∷ 45 ∷ rest) g ≡ with_option (45 ∷ 45 ∷ rest) g
+as_option rest g other = rw (other, looks_so rest) refl
+
+joined_is : (setting : Setting) (text : List ℕ) (value : ℕ) (g : Given) → value_of setting text ≡ Some value → with_any (front_of setting ++ text) g ≡ with_value setting (Some value) g
+joined_is Units text value g gives = as_option (codes "units=" ++ text) g refl ∙ ap (λ (o : Option ℕ). with_value Units o g) gives
+joined_is Handler text value g gives = as_option (codes "handler=" ++ text) g refl ∙ ap (λ (o : Option ℕ). with_value Handler o g) gives
+
+apart_is : (setting : Setting) (g : Given) → with_any (name_of setting) g ≡ Some (with_place (Value setting) g)
+apart_is Units g = as_option (codes "units") g refl
+apart_is Handler g = as_option (codes "handler") g refl
+
+-- The value is taken, since none stood there.
+value_is : (setting : Setting) (value : ℕ) (place : Place) (units handler now_units now_handler : Option ℕ) (files : List (List ℕ)) (items : List Item) → none_or_one now_units ≡ none_or_one units ++ (value_for Units setting value ++ values Units items) → none_or_one now_handler ≡ none_or_one handler ++ (value_for Handler setting value ++ values Handler items) → (u h : Option ℕ) × (with_value setting (Some value) (at place units handler files) ≡ Some (at Options u h files)) × (none_or_one now_units ≡ none_or_one u ++ values Units items) × (none_or_one now_handler ≡ none_or_one h ++ values Handler items)
+value_is Units value place units handler now_units now_handler files items is_units is_handler =
+    let none = none_stood now_units units value (values Units items) is_units in (
+      Some value,
+      handler,
+      ap (λ (o : Option ℕ). units_given o value (at place units handler files)) none,
+      subst (λ (o : Option ℕ). none_or_one now_units ≡ none_or_one o ++ (value ∷ values Units items)) none is_units,
+      is_handler,
+    )
+value_is Handler value place units handler now_units now_handler files items is_units is_handler =
+    let none = none_stood now_handler handler value (values Handler items) is_handler in (
+      units,
+      Some value,
+      ap (λ (o : Option ℕ). handler_given o value (at place units handler files)) none,
+      is_units,
+      subst (λ (o : Option ℕ). none_or_one now_handler ≡ none_or_one o ++ (value ∷ values Handler items)) none is_handler,
+    )
+
+makes : (items : List Item) (behind : Option (List (List ℕ))) (units handler now_units now_handler : Option ℕ) (files : List (List ℕ)) → AllByRecursion IsItem items → none_or_one now_units ≡ none_or_one units ++ values Units items → none_or_one now_handler ≡ none_or_one handler ++ values Handler items → length files + length (files_of items behind) ≤ images_limit + 1 → given_by (written items ++ ended behind) (Some (at Options units handler files)) ≡ Some (at (place_behind behind) now_units now_handler (files ++ files_of items behind))
+makes [] None units handler now_units now_handler files each is_units is_handler few =
+    let same_units = same_option now_units units (is_units ∙ append-nil (none_or_one units)) in
+    let same_handler = same_option now_handler handler (is_handler ∙ append-nil (none_or_one handler)) in
+    ap (λ (o : Option ℕ). Some (at Options o handler files)) (sym same_units)
+    ∙ ap (λ (o : Option ℕ). Some (at Options now_units o files)) (sym same_handler)
+    ∙ ap (λ (fs : List (List ℕ)). Some (at Options now_units now_handler fs)) (sym (append-nil files))
+makes [] (Some words) units handler now_units now_handler files each is_units is_handler few =
+    let same_units = same_option now_units units (is_units ∙ append-nil (none_or_one units)) in
+    let same_handler = same_option now_handler handler (is_handler ∙ append-nil (none_or_one handler)) in
+    makes_behind words units handler files few
+    ∙ ap (λ (o : Option ℕ). Some (at Operands o handler (files ++ words))) (sym same_units)
+    ∙ ap (λ (o : Option ℕ). Some (at Operands now_units o (files ++ words))) (sym same_handler)
+makes (Operand word ∷ items) behind units handler now_units now_handler files each is_units is_handler few =
+    let words = written items ++ ended behind in
+    let g = at Options units handler files in
+    ap (λ (b : Bool). given_by words (if b then Some (with_place Operands g) else (if is_option word then with_option word g else with_operand word g))) (no_end word each.0)
+    ∙ ap (λ (b : Bool). given_by words (if b then with_option word g else with_operand word g)) each.0
+    ∙ ap (λ (b : Bool). given_by words (if b then Some (at Options units handler (files ++ word ∷ [])) else None)) (room files word (files_of items behind) few)
+    ∙ makes items behind units handler now_units now_handler (files ++ word ∷ []) each.1 is_units is_handler (more_room files word (files_of items behind) few)
+    ∙ ap (λ (fs : List (List ℕ)). Some (at (place_behind behind) now_units now_handler fs)) (append_assoc files (word ∷ []) (files_of items behind))
+makes (Joined setting text value ∷ items) behind units handler now_units now_handler files each is_units is_handler few =
+    let words = written items ++ ended behind in
+    let v = value_is setting value Options units handler now_units now_handler files items is_units is_handler in
+    ap (given_by words) (joined_is setting text value (at Options units handler files) each.0 ∙ v.2)
+    ∙ makes items behind v.0 v.1 now_units now_handler files each.1 v.3 v.4 few
+makes (Apart setting text value ∷ items) behind units handler now_units now_handler files each is_units is_handler few =
+    let words = written items ++ ended behind in
+    let v = value_is setting value (Value setting) units handler now_units now_handler files items is_units is_handler in
+    ap (λ (o : Option Given). given_by (text ∷ words) o) (apart_is setting (at Options units handler files))
+    ∙ ap (λ (o : Option ℕ). given_by words (with_value setting o (at (Value setting) units handler files))) each.0
+    ∙ ap (λ (o : Option Given). given_by words o) v.2
+    ∙ makes items behind v.0 v.1 now_units now_handler files each.1 v.3 v.4 few
+
+-- No command takes more files than a run.
+few_files : (kind : Kind) (n : ℕ) → IsTrue (takes kind n) → n ≤ images_limit + 1
+few_files (Run units handler) n is = grind (arith, nat_tests)
+few_files Listing n is = grind (arith, nat_tests)
+few_files Upgrade n is = grind (arith, nat_tests)
+few_files Seal n is = grind (arith, nat_tests)
+
+command_is : (behind : Option (List (List ℕ))) (verb : List ℕ) (units handler : Option ℕ) (files : List (List ℕ)) (command : Command) → kind_of verb units handler ≡ Some command.kind → command.files ≡ files → IsTrue (takes command.kind (length command.files)) → command_at (place_behind behind) verb (at (place_behind behind) units handler files) ≡ Some command
+command_is None verb units handler files command named files_are number = ap (λ k. with_files k files) named ∙ ap (λ fs. with_files (Some command.kind) fs) (sym files_are) ∙ ap (λ b. if b then Some (record { kind = command.kind; files = command.files }) else None) number
+command_is (Some words) verb units handler files command named files_are number = ap (λ k. with_files k files) named ∙ ap (λ fs. with_files (Some command.kind) fs) (sym files_are) ∙ ap (λ b. if b then Some (record { kind = command.kind; files = command.files }) else None) number
+
+taken_from : (words : List (List ℕ)) (command : Command) → IsCommand words command → command_of words ≡ Some command
+taken_from words command r =
+    let few : length (files_of r.items r.behind) ≤ images_limit + 1 = subst (λ (fs : List (List ℕ)). length fs ≤ images_limit + 1) r.files_are (few_files command.kind (length command.files) r.number) in
+    ap command_of r.words_are
+    ∙ ap (λ (o : Option Given). command_with r.verb o) (makes r.items r.behind None None r.units r.handler [] r.each r.units_once r.handler_once (omega (arith, few)))
+    ∙ command_is r.behind r.verb r.units r.handler (files_of r.items r.behind) command r.named r.files_are r.number
+
+pub commands_are_by_rules : CommandsAreByRules
+commands_are_by_rules words command = (ruled words command, taken_from words command)
+
+-- Limits are in their ranges.
+
+in_range_where : (a b c : Bool) (n m : ℕ) → (if a && (b && c) then Some n else None) ≡ Some m → (b ≡ true) × (c ≡ true) × (n ≡ m)
+in_range_where true true true n m is = (refl, refl, cc)
+in_range_where true true false n m is = absurd (cc)
+in_range_where true false c n m is = absurd (cc)
+in_range_where false b c n m is = absurd (cc)
+
+in_range : (least most : ℕ) (text : List ℕ) (n : ℕ) → number_in least most text ≡ Some n → (least ≤ n) × (n ≤ most)
+in_range least most text n is =
+    let parts = in_range_where (is_number text) (nat_le least (decimal_value text)) (nat_le (decimal_value text) most) (decimal_value text) n is in
+    (grind (arith, nat_tests, parts.0, parts.2), grind (arith, nat_tests, parts.1, parts.2))
+
+abbrev IsGiven : Setting → Option ℕ → Type 0
+IsGiven setting o = (n : ℕ) → o ≡ Some n → (1 ≤ n) × (n ≤ greatest setting)
+
+first_is : (n m : ℕ) (rest : List ℕ) → n ∷ [] ≡ m ∷ rest → m ≡ n
+first_is n m rest e = cc
+
+given_values : (setting : Setting) (items : List Item) (n : ℕ) → AllByRecursion IsItem items → n ∷ [] ≡ values setting items → (1 ≤ n) × (n ≤ greatest setting)
+given_values setting [] n each e = absurd (cc)
+given_values setting (Operand word ∷ items) n each e = given_values setting items n each.1 e
+given_values Units (Joined Units text value ∷ items) n each e = subst (λ (k : ℕ). (1 ≤ k) × (k ≤ unit_limit)) (first_is n value (values Units items) e) (in_range 1 unit_limit text value each.0)
+given_values Units (Joined Handler text value ∷ items) n each e = given_values Units items n each.1 e
+given_values Handler (Joined Units text value ∷ items) n each e = given_values Handler items n each.1 e
+given_values Handler (Joined Handler text value ∷ items) n each e = subst (λ (k : ℕ). (1 ≤ k) × (k ≤ handler_limit)) (first_is n value (values Handler items) e) (in_range 1 handler_limit text value each.0)
+given_values Units (Apart Units text value ∷ items) n each e = subst (λ (k : ℕ). (1 ≤ k) × (k ≤ unit_limit)) (first_is n value (values Units items) e) (in_range 1 unit_limit text value each.0)
+given_values Units (Apart Handler text value ∷ items) n each e = given_values Units items n each.1 e
+given_values Handler (Apart Units text value ∷ items) n each e = given_values Handler items n each.1 e
+given_values Handler (Apart Handler text value ∷ items) n each e = subst (λ (k : ℕ). (1 ≤ k) × (k ≤ handler_limit)) (first_is n value (values Handler items) e) (in_range 1 handler_limit text value each.0)
+
+given_option : (setting : Setting) (items : List Item) (o : Option ℕ) → AllByRecursion IsItem items → none_or_one o ≡ values setting items → IsGiven setting o
+given_option setting items None each e n is = absurd (cc)
+given_option setting items (Some m) each e n is =
+    let same : m ≡ n = cc in subst (λ (k : ℕ). (1 ≤ k) × (k ≤ greatest setting)) same (given_values setting items m each e)
+
+or_default : (o : Option ℕ) (own most : ℕ) → ((n : ℕ) → o ≡ Some n → (1 ≤ n) × (n ≤ most)) → 1 ≤ own → own ≤ most → (1 ≤ unwrap_or o own) × (unwrap_or o own ≤ most)
+or_default None own most given least high = (least, high)
+or_default (Some n) own most given least high = given n refl
+
+tool_within : (a b c : Bool) (kind : Kind) → (if a then Some Listing else (if b then Some Upgrade else (if c then Some Seal else None))) ≡ Some kind → IsWithinLimits kind
+tool_within true b c kind e = let same : Listing ≡ kind = cc in subst IsWithinLimits same tt
+tool_within false true c kind e = let same : Upgrade ≡ kind = cc in subst IsWithinLimits same tt
+tool_within false false true kind e = let same : Seal ≡ kind = cc in subst IsWithinLimits same tt
+tool_within false false false kind e = absurd (cc)
+
+alone_within : (verb : List ℕ) (units handler : Option ℕ) (kind : Kind) → without_limits (tool_of verb) units handler ≡ Some kind → IsWithinLimits kind
+alone_within verb None None kind e = tool_within (bytes_eq verb (codes "list")) (bytes_eq verb (codes "upgrade")) (bytes_eq verb (codes "seal")) kind e
+alone_within verb None (Some h) kind e = absurd (cc)
+alone_within verb (Some u) None kind e = absurd (cc)
+alone_within verb (Some u) (Some h) kind e = absurd (cc)
+
+named_within : (b : Bool) (verb : List ℕ) (units handler : Option ℕ) (kind : Kind) → IsGiven Units units → IsGiven Handler handler → (if b then Some (Run (unwrap_or units default_units) (unwrap_or handler default_handler_units)) else without_limits (tool_of verb) units handler) ≡ Some kind → IsWithinLimits kind
+named_within true verb units handler kind given_units given_handler e =
+    let u = or_default units default_units unit_limit given_units (omega arith) (omega arith) in
+    let h = or_default handler default_handler_units handler_limit given_handler (omega arith) (omega arith) in
+    let same : Run (unwrap_or units default_units) (unwrap_or handler default_handler_units) ≡ kind = cc in
+    subst IsWithinLimits same (u.0, u.1, h.0, h.1)
+named_within false verb units handler kind given_units given_handler e = alone_within verb units handler kind e
+
+pub commands_are_within_limits : CommandsAreWithinLimits
+commands_are_within_limits words command e =
+    let r = ruled words command e in
+    named_within (bytes_eq r.verb (codes "run")) r.verb r.units r.handler command.kind
+    (given_option Units r.items r.units r.each r.units_once)
+    (given_option Handler r.items r.handler r.each r.handler_once) r.named
