@@ -1,6 +1,10 @@
+pub mod Beginnings
 pub mod BlockLists
+pub mod Changes
+pub mod Entries
 pub mod EntryPage
 pub mod LeastFit
 pub mod Loads
 pub mod OneSegment
 pub mod Owners
+pub mod Places

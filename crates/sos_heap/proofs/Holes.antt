@@ -13,7 +13,7 @@ use Rattle.sos_heap.specs.Runs.{AllFree}
 use Rattle.sos_heap.specs.Tree.{leaf_count, IsTree, free_at, changed, IsAnswer, free_in, IsIndexed}
 use Rattle.sos_heap.proofs.Between.{cases_between}
 use Rattle.sos_heap.proofs.Mends.{changed-inside, changed-outside, free_told, own_test, same_tree}
-use Rattle.sos_heap.proofs.Places.{AreFree-one, AreFree-run}
+use Rattle.mote_layout.proofs.Places.{AreFree-one, AreFree-run}
 
 -- two tests that pass alike, and one that doesn't pass
 same_test : (p q : Bool) → ((p ≡ true) → q ≡ true) → ((q ≡ true) → p ≡ true) → p ≡ q

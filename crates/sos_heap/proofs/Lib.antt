@@ -1,10 +1,6 @@
-pub mod Beginnings
 pub mod Between
-pub mod Changes
 pub mod Descents
-pub mod Entries
 pub mod Holes
 pub mod Joins
 pub mod Mends
-pub mod Places
 pub mod Purged

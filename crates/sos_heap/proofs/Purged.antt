@@ -9,8 +9,8 @@ use Rattle.mote_layout.proofs.OneSegment.{starting_at-fits, without_owner-withou
 use Rattle.mote_layout.specs.Requests.{beginning_at, Holds}
 use Rattle.mote_layout.specs.Parcels.{Payload, IsParcelOf}
 use Rattle.mote_layout.specs.Parcels.{kernel_entries, KernelStays}
-use Rattle.sos_heap.proofs.Beginnings.{beginning_at-starting_at, beginning_at-first, begins_at}
-use Rattle.sos_heap.proofs.Changes.{without-changed}
+use Rattle.mote_layout.proofs.Beginnings.{beginning_at-starting_at, beginning_at-first, begins_at}
+use Rattle.mote_layout.proofs.Changes.{without-changed}
 
 -- the kernel's entries are not the domain's
 entries_purged : (d : ℕ) (ss : List Segment) (b : ℕ) → d < kernel → kernel_entries b (without_owner d ss) ≡ kernel_entries b ss

@@ -3,7 +3,7 @@ use Rattle.std.proofs.Common.{◌≡◌, Some, None, sym, ap, ◌∙◌, arith, 
 use Rattle.std.proofs.lemmas.Bool.{cond-true, cond-false, ne_eqb}
 use Rattle.mote_layout.specs.Blocks.{segment_at}
 use Rattle.mote_layout.proofs.OneSegment.{segment_at-within}
-use Rattle.sos_heap.proofs.Beginnings.{if_begins, beginning_at-segment_at}
+use Rattle.mote_layout.proofs.Beginnings.{if_begins, beginning_at-segment_at}
 use Rattle.sos_heap.proofs.held.beginning_at.Goals as goal
 
 pub returns-in_err-segment-clause-segment : goal.returns-in_err-segment-clause-segment

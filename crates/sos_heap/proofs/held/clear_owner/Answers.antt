@@ -3,7 +3,7 @@ use Rattle.std.proofs.Common.{◌≡◌, Some, arith}
 use Rattle.mote_layout.specs.Memory.{block_count}
 use Rattle.mote_layout.specs.Blocks.{AreBlocks, block_address, without}
 use Rattle.mote_layout.specs.Requests.{beginning_at, Holds}
-use Rattle.sos_heap.proofs.Beginnings.{begins_at}
+use Rattle.mote_layout.proofs.Beginnings.{begins_at}
 use Rattle.sos_heap.proofs.Purged.{purge_passed, purge_taken, purge_end}
 use Rattle.sos_heap.proofs.held.clear_owner.Goals as goal
 use Rattle.sos_heap.proofs.held.clear_owner.Goals.{in-Ok, in_default}

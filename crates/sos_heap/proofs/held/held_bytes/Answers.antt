@@ -1,6 +1,6 @@
 -- What begins at the address lies in the heap, so its bytes are few.
 use Rattle.std.proofs.Common.{arith}
-use Rattle.sos_heap.proofs.Beginnings.{begins_at}
+use Rattle.mote_layout.proofs.Beginnings.{begins_at}
 use Rattle.sos_heap.proofs.held.held_bytes.Goals as goal
 
 pub overflow_mul-segment : goal.overflow_mul-segment

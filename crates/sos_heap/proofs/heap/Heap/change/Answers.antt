@@ -2,8 +2,8 @@
 use Rattle.std.proofs.Common.{◌<◌, sym, ap, ◌∙◌, arith}
 use Rattle.mote_layout.specs.Memory.{kernel}
 use Rattle.mote_layout.specs.Blocks.{block_of, handed_over}
-use Rattle.sos_heap.proofs.Beginnings.{begins_at}
-use Rattle.sos_heap.proofs.Entries.{handed_over_stays}
+use Rattle.mote_layout.proofs.Beginnings.{begins_at}
+use Rattle.mote_layout.proofs.Entries.{handed_over_stays}
 use Rattle.sos_heap.proofs.heap.Heap.change.Goals as goal
 
 pub hand_over-requires-clause-there : goal.hand_over-requires-clause-there

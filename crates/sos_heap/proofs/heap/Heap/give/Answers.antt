@@ -2,8 +2,8 @@
 use Rattle.std.proofs.Common.{◌≡◌, Some, None, sym, ◌∙◌, arith}
 use Rattle.std.proofs.lemmas.Option.{none-some}
 use Rattle.mote_layout.specs.Requests.{place_for}
-use Rattle.sos_heap.proofs.Places.{placed, no_place, a_place, lies_at}
-use Rattle.sos_heap.proofs.Entries.{served_stays}
+use Rattle.mote_layout.proofs.Places.{placed, no_place, a_place, lies_at}
+use Rattle.mote_layout.proofs.Entries.{served_stays}
 use Rattle.sos_heap.proofs.heap.Heap.give.Goals as goal
 
 pub block_address-requires : goal.block_address-requires

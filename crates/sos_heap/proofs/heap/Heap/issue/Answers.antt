@@ -4,8 +4,8 @@ use Rattle.std.proofs.lemmas.Option.{none-some}
 use Rattle.mote_layout.specs.Requests.{place_for}
 use Rattle.mote_layout.specs.Blocks.{block_address}
 use Rattle.mote_layout.specs.Parcels.{Payload}
-use Rattle.sos_heap.proofs.Places.{placed, no_place, a_place, lies_at}
-use Rattle.sos_heap.proofs.Entries.{served_gains}
+use Rattle.mote_layout.proofs.Places.{placed, no_place, a_place, lies_at}
+use Rattle.mote_layout.proofs.Entries.{served_gains}
 use Rattle.sos_heap.proofs.heap.Heap.issue.Goals as goal
 
 pub new-requires : goal.new-requires

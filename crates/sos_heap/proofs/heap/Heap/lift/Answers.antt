@@ -3,8 +3,8 @@ use Rattle.std.proofs.Common.{◌<◌, ◌≤◌, ◌*◌, ap, ◌∙◌, arith}
 use Rattle.mote_layout.specs.Memory.{kernel, block_bytes}
 use Rattle.mote_layout.specs.Blocks.{block_address}
 use Rattle.mote_layout.specs.Parcels.{Payload}
-use Rattle.sos_heap.proofs.Beginnings.{begins_at}
-use Rattle.sos_heap.proofs.Entries.{handed_over_gains}
+use Rattle.mote_layout.proofs.Beginnings.{begins_at}
+use Rattle.mote_layout.proofs.Entries.{handed_over_gains}
 use Rattle.sos_heap.proofs.heap.Heap.lift.Goals as goal
 
 pub hand_over-requires-clause-there : goal.hand_over-requires-clause-there

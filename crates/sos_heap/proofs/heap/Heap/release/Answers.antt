@@ -2,8 +2,8 @@
 use Rattle.std.proofs.Common.{◌<◌, sym, ap, ◌∙◌, arith}
 use Rattle.mote_layout.specs.Memory.{kernel}
 use Rattle.mote_layout.specs.Blocks.{block_of, without}
-use Rattle.sos_heap.proofs.Beginnings.{begins_at}
-use Rattle.sos_heap.proofs.Entries.{without_stays}
+use Rattle.mote_layout.proofs.Beginnings.{begins_at}
+use Rattle.mote_layout.proofs.Entries.{without_stays}
 use Rattle.sos_heap.proofs.heap.Heap.release.Goals as goal
 
 pub clear_segment-requires : goal.clear_segment-requires

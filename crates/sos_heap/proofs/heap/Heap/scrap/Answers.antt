@@ -2,8 +2,8 @@
 use Rattle.std.proofs.Common.{◌≡◌, sym, ap, ◌∙◌, arith}
 use Rattle.mote_layout.specs.Blocks.{without}
 use Rattle.mote_layout.specs.Parcels.{IsParcelOf}
-use Rattle.sos_heap.proofs.Beginnings.{begins_at}
-use Rattle.sos_heap.proofs.Entries.{without_loses}
+use Rattle.mote_layout.proofs.Beginnings.{begins_at}
+use Rattle.mote_layout.proofs.Entries.{without_loses}
 use Rattle.sos_heap.proofs.heap.Heap.scrap.Goals as goal
 
 pub clear_segment-requires : goal.clear_segment-requires

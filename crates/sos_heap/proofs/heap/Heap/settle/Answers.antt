@@ -2,8 +2,8 @@
 use Rattle.std.proofs.Common.{◌≡◌, Some, sym, ap, ◌∙◌, arith}
 use Rattle.mote_layout.specs.Blocks.{starting_at, handed_over}
 use Rattle.mote_layout.specs.Parcels.{IsParcelOf}
-use Rattle.sos_heap.proofs.Beginnings.{begins_at}
-use Rattle.sos_heap.proofs.Entries.{handed_over_loses}
+use Rattle.mote_layout.proofs.Beginnings.{begins_at}
+use Rattle.mote_layout.proofs.Entries.{handed_over_loses}
 use Rattle.sos_heap.proofs.heap.Heap.settle.Goals as goal
 
 pub hand_over-requires-clause-there : goal.hand_over-requires-clause-there

@@ -9,22 +9,22 @@ use Rattle.mote_layout.proofs.BlockLists.{AreBlocks-inserted, AreBlocks-without,
 use Rattle.mote_layout.specs.Requests.{place_for, segment_for, served, beginning_at}
 use Rattle.mote_layout.specs.Parcels.{Payload, IsParcelOf}
 use Rattle.mote_layout.specs.Parcels.{kernel_entries, naming, KernelStays, KernelGains, KernelLoses}
-use Rattle.sos_heap.proofs.Beginnings.{begins_at}
-use Rattle.sos_heap.proofs.Changes.{IsChangedAt, without-changed, inserted-changed, handed_over-changed, starting_at-free}
-use Rattle.sos_heap.proofs.Places.{placed}
+use Rattle.mote_layout.proofs.Beginnings.{begins_at}
+use Rattle.mote_layout.proofs.Changes.{IsChangedAt, without-changed, inserted-changed, handed_over-changed, starting_at-free}
+use Rattle.mote_layout.proofs.Places.{placed}
 
 -- 1 where the segment is the kernel's
 abbrev pub kernel_of : Option Segment → ℕ
 kernel_of None = 0
 kernel_of (Some s) = cond (eqb s.owner kernel) 1 0
 
-kernel_of-domain : (s : Segment) → s.owner < kernel → kernel_of (Some s) ≡ 0
+pub kernel_of-domain : (s : Segment) → s.owner < kernel → kernel_of (Some s) ≡ 0
 kernel_of-domain s h = cond-false (eqb s.owner kernel) 1 0 (ne_eqb s.owner kernel (λ e. omega (arith, e, h)))
 
-kernel_of-kernel : (s : Segment) → s.owner ≡ kernel → kernel_of (Some s) ≡ 1
+pub kernel_of-kernel : (s : Segment) → s.owner ≡ kernel → kernel_of (Some s) ≡ 1
 kernel_of-kernel s h = cond-true (eqb s.owner kernel) 1 0 (eq-eqb s.owner kernel h)
 
-kernel_of-parcel : (o : Option Segment) (len : ℕ) → IsSomeAnd o (λ s. (s.owner ≡ kernel) × (len ≤ block_bytes * s.count)) → kernel_of o ≡ 1
+pub kernel_of-parcel : (o : Option Segment) (len : ℕ) → IsSomeAnd o (λ s. (s.owner ≡ kernel) × (len ≤ block_bytes * s.count)) → kernel_of o ≡ 1
 kernel_of-parcel None len h = absurd h
 kernel_of-parcel (Some s) len h = kernel_of-kernel s h.0
 
@@ -36,7 +36,7 @@ kernel_entries-behind low (t ∷ ts) b blocks h =
     rw other (kernel_entries-behind (t.first + t.count) ts b blocks.1 (omega (arith, h, blocks.0.0)))
 
 -- an entry of the kernel begins with a block where the segment that begins there is the kernel's
-kernel_entries-starting_at : (low : ℕ) (ss : List Segment) (b : ℕ) → AreBlocksFrom low ss → kernel_entries b ss ≡ kernel_of (starting_at ss b)
+pub kernel_entries-starting_at : (low : ℕ) (ss : List Segment) (b : ℕ) → AreBlocksFrom low ss → kernel_entries b ss ≡ kernel_of (starting_at ss b)
 kernel_entries-starting_at low [] b blocks = refl
 kernel_entries-starting_at low (t ∷ ts) b blocks =
     elim (cases_Bool (eqb t.first b)) [
@@ -46,7 +46,7 @@ kernel_entries-starting_at low (t ∷ ts) b blocks =
       | inr other ↦ rw other (kernel_entries-starting_at (t.first + t.count) ts b blocks.1)
     ]
 
-naming-same : (b : ℕ) (p : Payload) → p.block ≡ b → naming b p ≡ 1
+pub naming-same : (b : ℕ) (p : Payload) → p.block ≡ b → naming b p ≡ 1
 naming-same b p e = cond-true (eqb p.block b) 1 0 (eq-eqb p.block b e)
 
 naming-other : (b : ℕ) (p : Payload) → p.block ≢ b → naming b p ≡ 0
