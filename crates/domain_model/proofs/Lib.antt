@@ -3,6 +3,7 @@ pub mod ByteLists
 pub mod TimeLaws
 pub mod ChoiceLaws
 pub mod ModuleLaws
+pub mod PayloadLaws
 pub mod BlockLaws
 pub mod UnitLaws
 pub mod InstructionLaws

@@ -69,19 +69,22 @@ dispatch_clock (Some m) k r = deliver_clock (module_named k.modules m.to) m k r
 pub settled_clock : (e : UnitEnd) (run : Running) (k : KernelState) (r : RunnerState) (lines : List TraceLine) → (settled e run k r lines).kernel.clock ≡ k.clock
 settled_clock e run k r lines = (settled_rests e run k r lines).clock
 
--- a unit's step changes the processor, the queues and the blocks alone
-pub step_changes_alone : (k : KernelState) (r : RunnerState) (got : Acted) → UnitStep k r got → got.kernel ≡ with_parts k got.kernel.processor got.kernel.queues got.kernel.blocks
+-- a unit's step changes the processor, the queues, the blocks and the message in hand alone
+pub step_changes_alone : (k : KernelState) (r : RunnerState) (got : Acted) → UnitStep k r got → got.kernel ≡ with_parts k got.kernel.processor got.kernel.queues got.kernel.blocks got.kernel.hand
 step_changes_alone k r got step =
-    let e : with_memory (act k r).kernel got.kernel.processor.memory ≡ with_parts k (with_memory (act k r).kernel got.kernel.processor.memory).processor (act k r).kernel.queues (act k r).kernel.blocks
+    let e : with_memory (act k r).kernel got.kernel.processor.memory ≡ with_parts k (with_memory (act k r).kernel got.kernel.processor.memory).processor (act k r).kernel.queues (act k r).kernel.blocks (act k r).kernel.hand
     = ap (λ (n : KernelState). with_memory n got.kernel.processor.memory) (act_changes_alone k r) in
-    subst (λ (n : KernelState). n ≡ with_parts k n.processor n.queues n.blocks) (sym step.kernel.rest) e
+    subst (λ (n : KernelState). n ≡ with_parts k n.processor n.queues n.blocks n.hand) (sym step.kernel.rest) e
 
--- and these two as the unit itself does
+-- and these three as the unit itself does
 pub step_queues : (k : KernelState) (r : RunnerState) (got : Acted) → UnitStep k r got → got.kernel.queues ≡ (act k r).kernel.queues
 step_queues k r got step = ap (λ (n : KernelState). n.queues) step.kernel.rest
 
 pub step_blocks : (k : KernelState) (r : RunnerState) (got : Acted) → UnitStep k r got → got.kernel.blocks ≡ (act k r).kernel.blocks
 step_blocks k r got step = ap (λ (n : KernelState). n.blocks) step.kernel.rest
+
+pub step_hand : (k : KernelState) (r : RunnerState) (got : Acted) → UnitStep k r got → got.kernel.hand ≡ (act k r).kernel.hand
+step_hand k r got step = ap (λ (n : KernelState). n.hand) step.kernel.rest
 
 -- What a turn makes of a good state, but for the free bytes.
 
