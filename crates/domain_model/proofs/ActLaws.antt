@@ -94,7 +94,7 @@ return_outcome false calls k r = ends _ refl
 same_queues : (k : KernelState) (p : Processor) (blocks : List Segment) (lines : List TraceLine) → length lines ≤ 1 → list_any is_unload lines ≡ false → Serves k (with_parts k p k.queues blocks k.hand) lines
 same_queues k p blocks lines few quiet = record { alone = refl; more = omega arith; few = few; quiet = quiet }
 
-one_more : (high : Bool) (m : Message) (k : KernelState) → length (in_order (appended high m k.queues)) ≤ length (in_order k.queues) + 1
+pub one_more : (high : Bool) (m : Message) (k : KernelState) → length (in_order (appended high m k.queues)) ≤ length (in_order k.queues) + 1
 one_more high m k =
     cond_both high (record { high = k.queues.high ++ m ∷ []; low = k.queues.low }) (record { high = k.queues.high; low = k.queues.low ++ m ∷ [] })
     (λ (q : Lists Message). length (in_order q) ≤ length (in_order k.queues) + 1)

@@ -103,7 +103,7 @@ ending_kept k n run None modules h = tt
 ending_kept k n run (Some id) modules h = h ∙ ap (λ (ms : List Loaded). id_at ms run.domain) (sym modules)
 
 -- the same unit is next: the stack pointer, the modules and the message in hand are the same
-handler_kept : (o : Option Running) (k n : KernelState) (r : RunnerState) → n.processor.sp ≡ k.processor.sp → n.modules ≡ k.modules → n.hand ≡ k.hand → n.ending ≡ k.ending → GoodHandler k r o → GoodHandler n r o
+pub handler_kept : (o : Option Running) (k n : KernelState) (r : RunnerState) → n.processor.sp ≡ k.processor.sp → n.modules ≡ k.modules → n.hand ≡ k.hand → n.ending ≡ k.ending → GoodHandler k r o → GoodHandler n r o
 handler_kept None k n r sp modules hand ending h = (hand ∙ h.0, ending ∙ h.1)
 handler_kept (Some run) k n r sp modules hand ending h = (
   running_kept k n r r run sp modules h.0.unit h.0,
