@@ -9,7 +9,8 @@ use Rattle.mote_base.specs.Numbers.{number_in, is_number}
 use Rattle.mote_base.specs.Numbers.{value_of as decimal_value}
 use Rattle.mote_layout.specs.Limits.{images_limit, unit_limit, default_units, handler_limit, default_handler_units}
 use Rattle.domain_model.specs.declared.request.Kind.{Kind}
-use Rattle.domain_model.specs.declared.request.Kind.TheVariants.{Run, Listing, Upgrade, Seal}
+use Rattle.domain_model.specs.declared.request.Kind.TheVariants as kinds
+use Rattle.domain_model.specs.declared.request.Tool.{Tool}
 use Rattle.domain_model.specs.declared.request.Setting.{Setting}
 use Rattle.domain_model.specs.declared.request.Setting.TheVariants.{Units, Handler}
 use Rattle.domain_model.specs.declared.request.Place.{Place}
@@ -399,10 +400,8 @@ makes (Apart setting text value ∷ items) behind units handler now_units now_ha
 
 -- No command takes more files than a run.
 few_files : (kind : Kind) (n : ℕ) → IsTrue (takes kind n) → n ≤ images_limit + 1
-few_files (Run units handler) n is = grind (arith, nat_tests)
-few_files Listing n is = grind (arith, nat_tests)
-few_files Upgrade n is = grind (arith, nat_tests)
-few_files Seal n is = grind (arith, nat_tests)
+few_files (kinds.Run units handler) n is = grind (arith, nat_tests)
+few_files (kinds.Tool tool) n is = grind (arith, nat_tests)
 
 command_is : (behind : Option (List (List ℕ))) (verb : List ℕ) (units handler : Option ℕ) (files : List (List ℕ)) (command : Command) → kind_of verb units handler ≡ Some command.kind → command.files ≡ files → IsTrue (takes command.kind (length command.files)) → command_at (place_behind behind) verb (at (place_behind behind) units handler files) ≡ Some command
 command_is None verb units handler files command named files_are number = ap (λ k. with_files k files) named ∙ ap (λ fs. with_files (Some command.kind) fs) (sym files_are) ∙ ap (λ b. if b then Some (record { kind = command.kind; files = command.files }) else None) number
@@ -458,25 +457,19 @@ or_default : (o : Option ℕ) (own most : ℕ) → ((n : ℕ) → o ≡ Some n �
 or_default None own most given least high = (least, high)
 or_default (Some n) own most given least high = given n refl
 
-tool_within : (a b c : Bool) (kind : Kind) → (if a then Some Listing else (if b then Some Upgrade else (if c then Some Seal else None))) ≡ Some kind → IsWithinLimits kind
-tool_within true b c kind e = let same : Listing ≡ kind = cc in subst IsWithinLimits same tt
-tool_within false true c kind e = let same : Upgrade ≡ kind = cc in subst IsWithinLimits same tt
-tool_within false false true kind e = let same : Seal ≡ kind = cc in subst IsWithinLimits same tt
-tool_within false false false kind e = absurd (cc)
+alone_within : (tool : Option Tool) (units handler : Option ℕ) (kind : Kind) → without_limits tool units handler ≡ Some kind → IsWithinLimits kind
+alone_within (Some tool) None None kind e = let same : kinds.Tool tool ≡ kind = cc in subst IsWithinLimits same tt
+alone_within None units handler kind e = absurd (cc)
+alone_within (Some tool) None (Some h) kind e = absurd (cc)
+alone_within (Some tool) (Some u) handler kind e = absurd (cc)
 
-alone_within : (verb : List ℕ) (units handler : Option ℕ) (kind : Kind) → without_limits (tool_of verb) units handler ≡ Some kind → IsWithinLimits kind
-alone_within verb None None kind e = tool_within (bytes_eq verb (codes "list")) (bytes_eq verb (codes "upgrade")) (bytes_eq verb (codes "seal")) kind e
-alone_within verb None (Some h) kind e = absurd (cc)
-alone_within verb (Some u) None kind e = absurd (cc)
-alone_within verb (Some u) (Some h) kind e = absurd (cc)
-
-named_within : (b : Bool) (verb : List ℕ) (units handler : Option ℕ) (kind : Kind) → IsGiven Units units → IsGiven Handler handler → (if b then Some (Run (unwrap_or units default_units) (unwrap_or handler default_handler_units)) else without_limits (tool_of verb) units handler) ≡ Some kind → IsWithinLimits kind
+named_within : (b : Bool) (verb : List ℕ) (units handler : Option ℕ) (kind : Kind) → IsGiven Units units → IsGiven Handler handler → (if b then Some (kinds.Run (unwrap_or units default_units) (unwrap_or handler default_handler_units)) else without_limits (tool_of verb) units handler) ≡ Some kind → IsWithinLimits kind
 named_within true verb units handler kind given_units given_handler e =
     let u = or_default units default_units unit_limit given_units (omega arith) (omega arith) in
     let h = or_default handler default_handler_units handler_limit given_handler (omega arith) (omega arith) in
-    let same : Run (unwrap_or units default_units) (unwrap_or handler default_handler_units) ≡ kind = cc in
+    let same : kinds.Run (unwrap_or units default_units) (unwrap_or handler default_handler_units) ≡ kind = cc in
     subst IsWithinLimits same (u.0, u.1, h.0, h.1)
-named_within false verb units handler kind given_units given_handler e = alone_within verb units handler kind e
+named_within false verb units handler kind given_units given_handler e = alone_within (tool_of verb) units handler kind e
 
 pub commands_are_within_limits : CommandsAreWithinLimits
 commands_are_within_limits words command e =

@@ -5,7 +5,9 @@ use Rattle.std.specs.Str.{bytes_eq}
 use Rattle.mote_base.specs.Numbers.{number_in}
 use Rattle.mote_layout.specs.Limits.{image_limit, images_limit, script_limit, unit_limit, default_units, handler_limit, default_handler_units}
 use Rattle.domain_model.specs.declared.request.Kind.{Kind}
-use Rattle.domain_model.specs.declared.request.Kind.TheVariants.{Run, Listing, Upgrade, Seal}
+use Rattle.domain_model.specs.declared.request.Kind.TheVariants as kinds
+use Rattle.domain_model.specs.declared.request.Tool.{Tool}
+use Rattle.domain_model.specs.declared.request.Tool.TheVariants.{Listing, Upgrade, Seal}
 use Rattle.domain_model.specs.declared.request.Setting.{Setting}
 use Rattle.domain_model.specs.declared.request.Setting.TheVariants.{Units, Handler}
 use Rattle.domain_model.specs.declared.request.Place.{Place}
@@ -18,43 +20,37 @@ pub record Command : Type 0 where
 
 -- whether it takes so many files: `run` a script and 1 to 64 images, and each other command an image
 abbrev pub takes : Kind → ℕ → Bool
-takes (Run units handler) count = nat_le 2 count && nat_le count (1 + images_limit)
-takes Listing count = count == 1
-takes Upgrade count = count == 1
-takes Seal count = count == 1
+takes (kinds.Run units handler) count = nat_le 2 count && nat_le count (1 + images_limit)
+takes (kinds.Tool tool) count = count == 1
 
 -- The most bytes of the command's file with that number, counted from 0: 1,048,576 of a script and 65,536
 -- of an image.
 abbrev pub limit_of : Kind → ℕ → ℕ
-limit_of (Run units handler) number = if number == 0 then script_limit else image_limit
-limit_of Listing number = image_limit
-limit_of Upgrade number = image_limit
-limit_of Seal number = image_limit
+limit_of (kinds.Run units handler) number = if number == 0 then script_limit else image_limit
+limit_of (kinds.Tool tool) number = image_limit
 
 -- The limits of a run are in their ranges.
 abbrev pub IsWithinLimits : Kind → Type 0
-IsWithinLimits (Run units handler) = (1 ≤ units) × (units ≤ unit_limit) × (1 ≤ handler) × (handler ≤ handler_limit)
-IsWithinLimits Listing = Unit {0}
-IsWithinLimits Upgrade = Unit {0}
-IsWithinLimits Seal = Unit {0}
+IsWithinLimits (kinds.Run units handler) = (1 ≤ units) × (units ≤ unit_limit) × (1 ≤ handler) × (handler ≤ handler_limit)
+IsWithinLimits (kinds.Tool tool) = Unit {0}
 
--- The command of that name which takes no options.
-abbrev pub tool_of : List ℕ → Option Kind
+-- the tool of that name
+abbrev pub tool_of : List ℕ → Option Tool
 tool_of verb =
     if bytes_eq verb (codes "list")
     then Some Listing
     else (if bytes_eq verb (codes "upgrade") then Some Upgrade else (if bytes_eq verb (codes "seal") then Some Seal else None))
 
-abbrev pub without_limits : Option Kind → Option ℕ → Option ℕ → Option Kind
-without_limits kind None None = kind
-without_limits kind _ _ = None
+abbrev pub without_limits : Option Tool → Option ℕ → Option ℕ → Option Kind
+without_limits (Some tool) None None = Some (kinds.Tool tool)
+without_limits _ _ _ = None
 
 -- The command of that name with these limits, each where it is given. `run` alone takes limits, and has its own where
 -- none is given.
 abbrev pub kind_of : List ℕ → Option ℕ → Option ℕ → Option Kind
 kind_of verb units handler =
     if bytes_eq verb (codes "run")
-    then Some (Run (unwrap_or units default_units) (unwrap_or handler default_handler_units))
+    then Some (kinds.Run (unwrap_or units default_units) (unwrap_or handler default_handler_units))
     else without_limits (tool_of verb) units handler
 
 -- The words.

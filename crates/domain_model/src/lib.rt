@@ -43,5 +43,5 @@ pub use line::{TraceLine, Why};
 pub use lines::Lines;
 pub use payload::PayloadBytes;
 pub use refusal::Refusal;
-pub use request::{Kind, Place, Setting, commands_are_by_rules};
+pub use request::{Kind, Place, Setting, Tool, commands_are_by_rules};
 pub use script::{Event, What};

@@ -6,11 +6,18 @@ ghost use Rattle.domain_model.specs.Command.{CommandsAreByRules, CommandsAreWith
 pub enum Kind {
     /// Run a script over images: at most so many units in the run, and in one handler.
     Run { units: u64, handler: u64 },
-    /// List the units of an image.
+    /// Make one file of another.
+    Tool(Tool),
+}
+
+/// What a command makes that takes one file and no options.
+#[derive(Clone, Copy, Debug, PartialEq, Eq)]
+pub enum Tool {
+    /// The list of the units of an image.
     Listing,
-    /// Write an image in the second version of the format.
+    /// The image in the second version of the format.
     Upgrade,
-    /// Write an image that is sealed.
+    /// The image, sealed.
     Seal,
 }
 

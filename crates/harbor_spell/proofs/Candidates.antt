@@ -1,8 +1,8 @@
 -- The candidate is the template that comes first, but for what a short skip passes over.
-use Rattle.std.proofs.Common.{◌≡◌, ◌≢◌, ◌∙◌, ℕ, zero, suc, ◌+◌, ◌<◌, ◌≤◌, ◌^◌, ◌==◌, ◌&&◌, cond, eqb, ltb, leb, not, Bool, true, false, List, [], ◌∷◌, ◌++◌, length, Option, Some, None, pos, negsuc, ℤ, refl, sym, ap, subst, arith, lit<, append_assoc}
+use Rattle.std.proofs.Common.{◌≡◌, ◌∙◌, ℕ, ◌+◌, ◌==◌, ◌&&◌, cond, eqb, not, Bool, true, false, List, [], ◌∷◌, ◌++◌, Option, Some, None, pos, negsuc, ℤ, refl, sym, ap, subst, append_assoc}
 use Rattle.std.specs.Prelude.{⊤}
 use Rattle.std.specs.List.{AllByRecursion}
-use Rattle.std.proofs.lemmas.Bool.{eqb-true, eq-eqb, lt-ltb, and_parts}
+use Rattle.std.proofs.lemmas.Bool.{eqb-true, eq-eqb, and_parts}
 use Rattle.std.proofs.lemmas.Option.{none-some, same_Some}
 use Rattle.avr_isa.specs.declared.instruction.Instr.{Instr}
 use Rattle.avr_isa.specs.declared.instruction.Instr.TheVariants as instr
@@ -12,19 +12,18 @@ use Rattle.unit_code.specs.declared.unit.Unit.TheVariants as unit
 use Rattle.unit_code.specs.declared.kinds.Standing.{Standing}
 use Rattle.unit_code.specs.declared.kinds.Standing.TheVariants.{NoInstruction, Barred, Part}
 use Rattle.unit_code.specs.declared.kinds.Piece.TheVariants as piece
-use Rattle.unit_code.specs.declared.kinds.Aim.TheVariants as aim
 use Rattle.unit_code.specs.Kinds.{standing_of, whole}
 use Rattle.unit_code.specs.declared.form.Form.{Form}
 use Rattle.unit_code.specs.declared.form.Form.TheVariants.{Whole, ShortSkip, LongSkip, ShortBranch, LongBranch, Jumping, Calling}
 use Rattle.harbor_spell.specs.declared.opening.Opening.{Opening}
 use Rattle.harbor_spell.specs.declared.opening.Opening.TheVariants.{Alone, Skipping, Branching, Guarding, Grouping, CallingLocal, Nothing}
-use Rattle.unit_code.specs.Templates.{HasOneForm, IsForm, address_of, branch, guard_of, template}
+use Rattle.unit_code.specs.Templates.{IsForm, address_of, branch, guard_of, template}
 use Rattle.unit_code.specs.Spelled.{out_high, out_low, out_status}
 use Rattle.unit_code.specs.Loads.{is_load}
-use Rattle.harbor_spell.specs.Front.{Found, branching, calling_local, called_local, candidate, continued, group_end, group_from, grouping, guarded, guarding, guards, is_jump_over, is_one, is_out, itself, jump_offset, long_skip, opening, over_a_jump, skipping, turned}
+use Rattle.harbor_spell.specs.Front.{Found, branching, calling_local, called_local, candidate, continued, group_end, group_from, grouping, guarded, guarding, is_jump_over, is_one, is_out, jump_offset, long_skip, opening, over_a_jump, skipping, turned}
 use Rattle.unit_code.specs.Beside.{BeginsWithJump, BeginsWithJumpOver}
 use Rattle.harbor_spell.proofs.Standings.{Back, IsStore, back}
-use Rattle.harbor_spell.proofs.Openings.{Opens, opening_guard, opening_kernel, opening_load, opening_plain, opening_pop, opening_push, opening_skip, opening_slot, opens, passed, passed_on}
+use Rattle.harbor_spell.proofs.Openings.{Opens, opening_guard, opening_kernel, opening_load, opening_plain, opening_pop, opening_push, opening_skip, opening_slot, opens, passed_on}
 
 -- What is behind a short form isn't a longer one's rest.
 abbrev pub IsCandidate : Form → List Instr → Type 0

@@ -1,13 +1,11 @@
 -- Templates side by side spell their units.
-use Rattle.std.proofs.Common.{◌≡◌, ◌∙◌, ℕ, zero, suc, ◌+◌, ◌&&◌, not, Bool, true, false, List, [], ◌∷◌, ◌++◌, length, ℤ, pos, Some, refl, sym, ap, subst, arith}
-use Rattle.std.specs.Prelude.{⊤}
+use Rattle.std.proofs.Common.{◌≡◌, ◌∙◌, ℕ, ◌+◌, not, Bool, true, false, List, [], ◌∷◌, ◌++◌, ℤ, pos, Some, refl, sym, ap, subst}
 use Rattle.std.specs.List.{AllByRecursion, flat_map}
 use Rattle.std.proofs.lemmas.Bool.{and_parts}
 use Rattle.std.proofs.lemmas.List.Concat.{flat_map-cons}
 use Rattle.avr_isa.specs.declared.instruction.Instr.{Instr}
 use Rattle.avr_isa.specs.declared.instruction.Instr.TheVariants.{Rjmp}
 use Rattle.unit_code.specs.declared.form.Form.{Form}
-use Rattle.unit_code.specs.declared.form.Form.TheVariants.{ShortSkip, ShortBranch}
 use Rattle.unit_code.specs.declared.unit.Shape.{Shape}
 use Rattle.unit_code.specs.declared.unit.Shape.TheVariants.{Long, Short}
 use Rattle.unit_code.specs.declared.unit.Unit.{Unit}
@@ -15,9 +13,8 @@ use Rattle.unit_code.specs.declared.unit.Unit.TheVariants.{Plain, Store, Load, P
 use Rattle.unit_code.specs.Beside.{BeginsWithJump, BeginsWithJumpOver, BeginsWithSeveral, IsReadSo, StandBy, Stands}
 use Rattle.unit_code.specs.Kinds.{standing_of, whole}
 use Rattle.unit_code.specs.Proper.{IsGuardedSo, IsOfKind, IsProper}
-use Rattle.unit_code.specs.Spelled.{offset_to}
 use Rattle.unit_code.specs.Spelling.{AreReadSo, AreShapesOf, AreTemplatesOf, Lays, begins_with_jump, begins_with_single, form_of, forms_from, is_jump, is_single, reads_short, start_of, starts_of}
-use Rattle.unit_code.specs.Templates.{IsForm, MayStandIn, template}
+use Rattle.unit_code.specs.Templates.{MayStandIn, template}
 use Rattle.harbor_spell.specs.Front.{candidate, is_several, several}
 use Rattle.harbor_spell.proofs.Candidates.{candidate-is}
 use Rattle.harbor_spell.proofs.Encodes.{form_kind}
@@ -138,35 +135,43 @@ stand sealed starts i [] ss kinds loads reads = refl
 stand sealed starts i (u ∷ us) [] kinds loads reads = refl
 stand sealed starts i (u ∷ us) (Long ∷ ss) kinds loads reads =
     let at = start_of starts i in
-    let behind = spelled starts (i + 1) us ss in
-    (behind, record {
-      kind = form_kind starts i at u Long kinds.0;
-      guarded = form_guarded sealed starts i at u Long loads.0;
-      words = flat_map-cons template (form_of starts i at u Long) (forms_from starts (i + 1) us ss);
-      read = read_long starts i at u behind;
-    }, stand sealed starts (i + 1) us ss kinds.1 loads.1 reads)
+    let behind = spelled starts (i + 1) us ss in (
+      behind,
+      record {
+        kind = form_kind starts i at u Long kinds.0;
+        guarded = form_guarded sealed starts i at u Long loads.0;
+        words = flat_map-cons template (form_of starts i at u Long) (forms_from starts (i + 1) us ss);
+        read = read_long starts i at u behind;
+      },
+      stand sealed starts (i + 1) us ss kinds.1 loads.1 reads,
+    )
 stand sealed starts i (u ∷ us) (Short ∷ ss) kinds loads reads =
     let at = start_of starts i in
     let behind = spelled starts (i + 1) us ss in
-    let tail = stand sealed starts (i + 1) us ss kinds.1 loads.1 reads.1 in
-    (behind, record {
-      kind = form_kind starts i at u Short kinds.0;
-      guarded = form_guarded sealed starts i at u Short loads.0;
-      words = flat_map-cons template (form_of starts i at u Short) (forms_from starts (i + 1) us ss);
-      read = read_short sealed starts i at u us ss kinds.1 reads.0 tail;
-    }, tail)
+    let tail = stand sealed starts (i + 1) us ss kinds.1 loads.1 reads.1 in (
+      behind,
+      record {
+        kind = form_kind starts i at u Short kinds.0;
+        guarded = form_guarded sealed starts i at u Short loads.0;
+        words = flat_map-cons template (form_of starts i at u Short) (forms_from starts (i + 1) us ss);
+        read = read_short sealed starts i at u us ss kinds.1 reads.0 tail;
+      },
+      tail,
+    )
 
 pub emitted_words_spell : (words : List ℕ) (sealed : Bool) (us : List Unit) (ss : List Shape) → IsProper us sealed → AreShapesOf us ss → AreReadSo us ss
     → AreTemplatesOf us ss words → Lays words sealed us (starts_of us ss)
 emitted_words_spell words sealed us ss proper shapes reads h =
     let starts = starts_of us ss in
-    let P : List Instr → Type 0 = λ is. StandBy sealed (forms_from starts 0 us ss) is [] in
-    (ss, record {
-      shaped = same_count starts 0 us ss shapes;
-      places = refl;
-      instructions = h.instructions;
-      spelled = h.spelled;
-      templates = subst P (sym h.templates) (stand sealed starts 0 us ss proper.kinds proper.loads reads);
-      targets = proper.targets;
-      skips = proper.skips;
-    })
+    let P : List Instr → Type 0 = λ is. StandBy sealed (forms_from starts 0 us ss) is [] in (
+      ss,
+      record {
+        shaped = same_count starts 0 us ss shapes;
+        places = refl;
+        instructions = h.instructions;
+        spelled = h.spelled;
+        templates = subst P (sym h.templates) (stand sealed starts 0 us ss proper.kinds proper.loads reads);
+        targets = proper.targets;
+        skips = proper.skips;
+      },
+    )

@@ -1,8 +1,6 @@
 -- The instructions of templates that stand in a bank have their operands in range.
-use Rattle.std.proofs.Common.{◌≡◌, ◌∙◌, ℕ, zero, suc, ◌+◌, ◌-◌, ◌≤◌, ◌<◌, ◌^◌, cond, ltb, not, Bool, true, false, List, [], ◌∷◌, ℤ, pos, negsuc, length, refl, sym, ap, subst, arith, lit<, to_z, of_z, w16}
+use Rattle.std.proofs.Common.{◌≡◌, ℕ, ◌+◌, ◌-◌, ◌<◌, cond, ltb, not, Bool, true, false, List, ℤ, pos, negsuc, refl, sym, subst, arith, to_z, of_z, w16}
 use Rattle.std.specs.List.{AllByRecursion}
-use Rattle.std.proofs.lemmas.Bool.{ltb-true, ltb-false}
-use Rattle.std.proofs.lemmas.Bool.Decides.{nat_tests}
 use Rattle.std.proofs.lemmas.Int.{ints, to_z-of_z}
 use Rattle.avr_isa.specs.Operands.{IsBit, IsBranchOffset, IsEncodable, IsJumpOffset}
 use Rattle.avr_isa.specs.declared.instruction.Instr.{Instr}

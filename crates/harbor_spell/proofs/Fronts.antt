@@ -1,11 +1,10 @@
 -- The front is the template that comes first.
-use Rattle.std.proofs.Common.{◌≡◌, ◌≢◌, ◌∙◌, ℕ, zero, suc, ◌+◌, ◌<◌, ◌≤◌, cond, leb, ◌&&◌, Bool, true, false, not, List, [], ◌∷◌, ◌++◌, length, Option, Some, None, pos, negsuc, ℤ, refl, sym, ap, subst, arith, lit<, append_assoc}
+use Rattle.std.proofs.Common.{◌≡◌, ◌∙◌, ◌<◌, ◌≤◌, cond, ◌&&◌, Bool, true, false, not, List, [], ◌∷◌, ◌++◌, length, Some, None, refl, sym, ap, subst, arith}
 use Rattle.std.specs.Prelude.{⊤}
 use Rattle.std.specs.List.{AllByRecursion}
 use Rattle.std.proofs.lemmas.Bool.{le-leb, leb-true}
 use Rattle.std.proofs.lemmas.Option.{none-some, same_Some}
 use Rattle.avr_isa.specs.declared.instruction.Instr.{Instr}
-use Rattle.avr_isa.specs.declared.instruction.Instr.TheVariants as instr
 use Rattle.avr_isa.specs.Operands.{IsEncodable}
 use Rattle.unit_code.specs.declared.unit.Unit.{Unit}
 use Rattle.unit_code.specs.declared.unit.Unit.TheVariants as unit
@@ -15,8 +14,7 @@ use Rattle.unit_code.specs.Templates.{IsForm, MayStandIn, template}
 use Rattle.unit_code.specs.Loads.{is_load}
 use Rattle.harbor_spell.specs.Front.{Found, candidate, front, is_several, may_stand, settled}
 use Rattle.unit_code.specs.Beside.{BeginsWithSeveral, IsReadSo, Stands}
-use Rattle.harbor_spell.proofs.Candidates.{AreBegun, Begins, IsCandidate, candidate-is, candidate_begun}
-use Rattle.harbor_spell.proofs.Openings.{passed, passed_on}
+use Rattle.harbor_spell.proofs.Candidates.{AreBegun, IsCandidate, candidate-is, candidate_begun}
 
 -- of several instructions it is no short form
 several_is_candidate : (f : Form) (rest : List Instr) → 2 ≤ length (template f) → IsCandidate f rest
@@ -113,6 +111,10 @@ settled_stands is (Some (Calling offset, rest)) h = record { kind = h.kind; word
 front_reads : (is : List Instr) → AllByRecursion IsEncodable is → DoesRead is (front is)
 unfolding front
 front_reads is enc = settled_stands is (candidate is) (candidate_begun is enc)
+
+-- the front comes first
+pub front-first : (is : List Instr) (f : Form) (rest : List Instr) → AllByRecursion IsEncodable is → front is ≡ Some (f, rest) → is ≡ template f ++ rest
+front-first is f rest enc e = (subst (DoesRead is) e (front_reads is enc)).words
 
 -- and the front stands there, in an image in which it may
 pub front-stands : (sealed : Bool) (is : List Instr) (f : Form) (rest : List Instr) → AllByRecursion IsEncodable is → front is ≡ Some (f, rest)

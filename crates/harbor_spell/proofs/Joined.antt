@@ -1,12 +1,12 @@
 -- Words of instructions, joined.
-use Rattle.std.proofs.Common.{◌≡◌, ◌∙◌, ℕ, zero, suc, ◌+◌, ◌≤◌, ◌<◌, List, [], ◌∷◌, ◌++◌, length, drop, Option, Some, None, Ok, refl, sym, ap, subst, arith}
+use Rattle.std.proofs.Common.{◌≡◌, ℕ, zero, suc, ◌≤◌, List, [], ◌∷◌, ◌++◌, length, drop, Option, Some, None, Ok, refl, sym, subst, arith}
 use Rattle.avr_isa.specs.Decoded.{decoded}
 use Rattle.avr_isa.specs.Table.{word_count}
 use Rattle.avr_isa.specs.declared.instruction.Instr.{Instr}
 use Rattle.avr_isa.proofs.TableLaws.{decoded_alone, decoded_count}
 use Rattle.unit_code.specs.Items.{next_word}
 use Rattle.unit_code.specs.Lengths.{instruction_length}
-use Rattle.unit_code.specs.Beside.{AreWordsOf, words_in}
+use Rattle.unit_code.specs.Beside.{AreWordsOf}
 use Rattle.unit_code.specs.Spelled.{BeginWith}
 
 -- what is decoded is decoded whatever follows behind

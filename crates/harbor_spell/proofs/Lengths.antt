@@ -1,21 +1,15 @@
 -- How many words instructions and templates have.
-use Rattle.std.proofs.Common.{◌≡◌, ◌∙◌, ℕ, zero, suc, ◌+◌, ◌≤◌, ◌<◌, List, [], ◌∷◌, ◌++◌, length, Option, Some, None, Ok, Bool, true, false, not, ℤ, pos, refl, sym, ap, subst, arith, add-zero}
-use Rattle.std.specs.Prelude.{⊤, slice_get}
-use Rattle.std.specs.List.{AllByRecursion}
-use Rattle.avr_isa.specs.Decoded.{decoded}
-use Rattle.avr_isa.specs.Place.{second_word}
+use Rattle.std.proofs.Common.{◌≡◌, ℕ, ◌+◌, List, Bool, true, false, not, ℤ, pos, refl, ap, subst, add-zero}
 use Rattle.avr_isa.specs.Table.{word_count}
 use Rattle.avr_isa.specs.declared.instruction.Instr.{Instr}
 use Rattle.unit_code.specs.declared.unit.Unit.{Unit}
-use Rattle.unit_code.specs.declared.unit.Unit.TheVariants.{Plain, Store, Load, Push, Pop, SpGroup, Reserve, Skip, Branch, Jump, LocalCall, KernelCall, SlotCall, SlotIndirect, Return}
+use Rattle.unit_code.specs.declared.unit.Unit.TheVariants.{Plain, Store, Load, SpGroup, Skip, Branch}
 use Rattle.unit_code.specs.declared.unit.Shape.{Shape}
 use Rattle.unit_code.specs.declared.unit.Shape.TheVariants.{Long, Short}
 use Rattle.unit_code.specs.declared.kinds.Standing.{Standing}
 use Rattle.unit_code.specs.Lengths.{instruction_length, spelled_length}
 use Rattle.unit_code.specs.Proper.{IsOfKind}
-use Rattle.unit_code.specs.declared.form.Form.{Form}
-use Rattle.unit_code.specs.Templates.{branch, template}
-use Rattle.unit_code.specs.Beside.{words_in}
+use Rattle.unit_code.specs.Templates.{branch}
 use Rattle.unit_code.specs.Beside.{form_words}
 use Rattle.unit_code.specs.Spelling.{form_of}
 use Rattle.harbor_spell.proofs.Standings.{Back, back}

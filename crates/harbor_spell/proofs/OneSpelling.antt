@@ -1,13 +1,12 @@
 -- Words and marks spell at most one list of units, with one list of starts.
-use Rattle.std.proofs.Common.{◌≡◌, ◌≢◌, ◌∙◌, ℕ, zero, suc, ◌+◌, ◌-◌, ◌^◌, ◌<◌, ◌≤◌, Bool, true, false, List, [], ◌∷◌, ◌++◌, length, get_or, drop, Option, Some, None, pos, negsuc, ℤ, refl, sym, ap, ap₂, subst, arith}
-use Rattle.std.specs.Prelude.{⊤, IfSome}
+use Rattle.std.proofs.Common.{◌≡◌, ◌∙◌, ℕ, zero, suc, ◌+◌, ◌^◌, ◌<◌, Bool, List, [], ◌∷◌, length, get_or, drop, ℤ, refl, sym, ap, ap₂, subst, arith}
+use Rattle.std.specs.Prelude.{IfSome}
 use Rattle.std.specs.List.{AllByRecursion}
-use Rattle.avr_isa.specs.Laws.{AreWords}
 use Rattle.avr_isa.specs.Operands.{IsEncodable}
 use Rattle.avr_isa.specs.declared.instruction.Instr.{Instr}
 use Rattle.avr_isa.proofs.TableLaws.{decoded_is_encodable}
 use Rattle.unit_code.specs.declared.unit.Unit.{Unit}
-use Rattle.unit_code.specs.declared.unit.Unit.TheVariants.{Plain, Store, Load, Push, Pop, SpGroup, Reserve, Skip, Branch, Jump, LocalCall, KernelCall, SlotCall, SlotIndirect, Return}
+use Rattle.unit_code.specs.declared.unit.Unit.TheVariants.{Skip, Branch, Jump, LocalCall}
 use Rattle.unit_code.specs.declared.unit.Shape.{Shape}
 use Rattle.unit_code.specs.declared.unit.Shape.TheVariants.{Long, Short}
 use Rattle.unit_code.specs.Items.{next_word}
@@ -17,9 +16,8 @@ use Rattle.unit_code.specs.Templates.{IsForm}
 use Rattle.unit_code.specs.declared.form.Form.{Form}
 use Rattle.unit_code.specs.declared.form.Form.TheVariants.{Whole, ShortSkip, LongSkip, ShortBranch, LongBranch, Jumping, Calling}
 use Rattle.unit_code.specs.Beside.{AreWordsOf}
-use Rattle.unit_code.specs.Spelled.{BeginWith}
 use Rattle.unit_code.specs.Beside.{StandBy, form_words, starts_from}
-use Rattle.unit_code.specs.Spelling.{AreSpelledBy, Lays, Spells, form_of, forms_from, start_of, starts_after, starts_of}
+use Rattle.unit_code.specs.Spelling.{AreSpelledBy, Lays, Spells, form_of, forms_from, start_of, starts_after}
 use Rattle.unit_code.specs.Spelled.{offset_to}
 use Rattle.harbor_spell.proofs.Starts.{AreForms, are_forms, length-starts, offset-same, same_start, starts_rise}
 use Rattle.harbor_spell.proofs.Lengths.{form_length}

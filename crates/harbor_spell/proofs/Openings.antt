@@ -1,24 +1,23 @@
 -- What an instruction opens.
-use Rattle.std.proofs.Common.{◌≡◌, ◌≢◌, ◌∙◌, ℕ, zero, suc, ◌+◌, ◌<◌, ◌≤◌, ◌^◌, ◌==◌, cond, eqb, ltb, Bool, true, false, List, [], ◌∷◌, Option, Some, None, pos, negsuc, ℤ, refl, sym, ap, subst, arith, lit<}
+use Rattle.std.proofs.Common.{◌≡◌, ◌≢◌, ◌∙◌, ℕ, ◌+◌, ◌<◌, ◌^◌, cond, eqb, ltb, Bool, true, false, [], ◌∷◌, Some, refl, sym, ap, subst, arith, lit<}
 use Rattle.std.specs.Prelude.{⊤}
-use Rattle.std.proofs.lemmas.Bool.{eqb-true, eq-eqb, lt-ltb}
+use Rattle.std.proofs.lemmas.Bool.{eqb-true, lt-ltb}
 use Rattle.std.proofs.lemmas.Bool.Decides.{nat_tests}
 use Rattle.avr_isa.specs.declared.instruction.Instr.{Instr}
 use Rattle.avr_isa.specs.declared.instruction.Instr.TheVariants as instr
 use Rattle.avr_isa.specs.Operands.{IsBit, IsEncodable}
 use Rattle.mote_layout.specs.declared.page.Entry.{Entry}
 use Rattle.mote_layout.specs.declared.page.Entry.TheVariants as entry
-use Rattle.mote_layout.specs.Page.{StandsAt, entry_at, kernel_call_count, page, slot_count}
+use Rattle.mote_layout.specs.Page.{StandsAt, kernel_call_count, slot_count}
 use Rattle.mote_layout.proofs.EntryPage.{entry_at-some}
-use Rattle.unit_code.specs.declared.unit.Unit.{Unit}
 use Rattle.unit_code.specs.declared.unit.Unit.TheVariants as unit
 use Rattle.unit_code.specs.declared.kinds.Standing.{Standing}
-use Rattle.unit_code.specs.declared.kinds.Standing.TheVariants.{NoInstruction, Barred, Part}
+use Rattle.unit_code.specs.declared.kinds.Standing.TheVariants.{Barred, Part}
 use Rattle.unit_code.specs.declared.kinds.Piece.TheVariants as piece
 use Rattle.unit_code.specs.declared.kinds.Aim.TheVariants as aim
 use Rattle.unit_code.specs.Kinds.{standing_call, standing_entry, standing_of, whole}
 use Rattle.unit_code.specs.declared.form.Form.{Form}
-use Rattle.unit_code.specs.declared.form.Form.TheVariants.{Whole, ShortSkip, LongSkip, ShortBranch, LongBranch, Jumping, Calling}
+use Rattle.unit_code.specs.declared.form.Form.TheVariants.{Whole, Jumping}
 use Rattle.harbor_spell.specs.declared.opening.Opening.{Opening}
 use Rattle.harbor_spell.specs.declared.opening.Opening.TheVariants.{Alone, Skipping, Branching, Guarding, Grouping, CallingLocal, Nothing}
 use Rattle.unit_code.specs.Templates.{IsForm, address_of, branch, guard_of, template}

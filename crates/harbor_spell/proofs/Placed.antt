@@ -1,20 +1,19 @@
 -- The units of a proper list stand in a bank, in whatever shapes they may have.
 use Rattle.std.proofs.Common.{◌≡◌, ◌∙◌, ℕ, zero, suc, ◌+◌, ◌≤◌, ◌<◌, Bool, true, false, List, [], ◌∷◌, length, get_or, Option, Some, None, refl, sym, ap, subst, arith}
-use Rattle.std.specs.Prelude.{slice_get, sum_by}
+use Rattle.std.specs.Prelude.{slice_get}
 use Rattle.std.specs.List.{AllByRecursion}
 use Rattle.std.proofs.lemmas.List.Sums.{sum_by-cons}
 use Rattle.std.proofs.lemmas.Option.{same_Some}
 use Rattle.avr_isa.specs.Place.{second_word}
 use Rattle.avr_isa.specs.Table.{word_count}
-use Rattle.avr_isa.specs.declared.instruction.Instr.{Instr}
 use Rattle.mote_layout.specs.Memory.{bank_words}
 use Rattle.unit_code.specs.declared.unit.Unit.{Unit}
-use Rattle.unit_code.specs.declared.unit.Unit.TheVariants.{Plain, Store, Load, Push, Pop, SpGroup, Reserve, Skip, Branch, Jump, LocalCall, KernelCall, SlotCall, SlotIndirect, Return}
+use Rattle.unit_code.specs.declared.unit.Unit.TheVariants.{Plain, Store, Load, SpGroup, Skip, Branch}
 use Rattle.unit_code.specs.declared.unit.Shape.{Shape}
 use Rattle.unit_code.specs.declared.unit.Shape.TheVariants.{Long, Short}
 use Rattle.unit_code.specs.Ends.{long_length}
 use Rattle.unit_code.specs.Lengths.{instruction_length, spelled_length}
-use Rattle.unit_code.specs.Proper.{CanBeSkipped, IsOfKind, IsProper, LeadsBelow, SkipsAreSound, SkipsTo}
+use Rattle.unit_code.specs.Proper.{CanBeSkipped, IsProper, LeadsBelow, SkipsAreSound, SkipsTo}
 use Rattle.unit_code.specs.Spelling.{AreShapesFrom, AreShapesOf, MayHave, start_of, starts_after, starts_of}
 use Rattle.harbor_spell.specs.Placed.{IsPlaced, SkipsBelow}
 use Rattle.harbor_spell.proofs.Starts.{instruction_length-some}

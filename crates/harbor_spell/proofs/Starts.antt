@@ -1,7 +1,6 @@
 -- Where templates start, and the offsets between them.
-use Rattle.std.proofs.Common.{◌≡◌, ◌≢◌, ◌∙◌, ℕ, zero, suc, ◌+◌, ◌-◌, ◌<◌, ◌≤◌, cond, ltb, leb, Bool, true, false, List, [], ◌∷◌, ◌++◌, length, get_or, Option, Some, None, pos, negsuc, ℤ, refl, sym, ap, ap₂, subst, arith, ◌⊎◌, ⊎_elim}
-use Rattle.std.proofs.lemmas.Bool.{ltb-true, ltb-false, le-leb, leb-true, cond-true}
-use Rattle.std.proofs.lemmas.Option.{none-some, same_Some}
+use Rattle.std.proofs.Common.{◌≡◌, ◌∙◌, ℕ, zero, suc, ◌+◌, ◌<◌, ◌≤◌, Bool, List, [], ◌∷◌, length, get_or, Option, Some, None, refl, sym, ap, arith, ◌⊎◌, ⊎_elim}
+use Rattle.std.proofs.lemmas.Option.{same_Some}
 use Rattle.avr_isa.specs.Place.{second_word}
 use Rattle.avr_isa.specs.Table.{word_count}
 use Rattle.avr_isa.specs.declared.instruction.Instr.{Instr}
@@ -10,7 +9,7 @@ use Rattle.unit_code.specs.Targets.{reached}
 use Rattle.unit_code.specs.declared.form.Form.{Form}
 use Rattle.unit_code.specs.Templates.{IsForm, template}
 use Rattle.unit_code.specs.Beside.{words_in}
-use Rattle.unit_code.specs.Beside.{StandBy, Stands, form_words, forms_words, starts_from}
+use Rattle.unit_code.specs.Beside.{StandBy, form_words, starts_from}
 use Rattle.unit_code.specs.Spelled.{offset_to}
 use Rattle.unit_code.proofs.Offsets.{reached-offset_to}
 use Rattle.harbor_spell.proofs.Fronts.{template_some}

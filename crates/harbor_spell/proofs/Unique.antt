@@ -1,21 +1,17 @@
 -- Words spell at most one list of units.
-use Rattle.std.proofs.Common.{◌≡◌, ◌≢◌, ◌∙◌, ℕ, zero, suc, ◌+◌, ◌-◌, ◌^◌, ◌<◌, ◌≤◌, cond, ltb, Bool, true, false, List, [], ◌∷◌, ◌++◌, length, get_or, drop, Option, Some, None, Result, Ok, Err, pos, negsuc, ℤ, refl, sym, ap, ap₂, subst, arith}
-use Rattle.std.specs.Prelude.{⊤}
+use Rattle.std.proofs.Common.{◌≡◌, ◌∙◌, ℕ, ◌<◌, Bool, List, [], ◌∷◌, ◌++◌, length, drop, Result, Ok, refl, sym, ap, ap₂, subst, arith}
 use Rattle.std.specs.List.{AllByRecursion}
-use Rattle.std.proofs.lemmas.Option.{none-some, same_Some}
+use Rattle.std.proofs.lemmas.Option.{same_Some}
 use Rattle.avr_isa.specs.Decoded.{decoded}
-use Rattle.avr_isa.specs.Laws.{AreWords}
 use Rattle.avr_isa.specs.Operands.{IsEncodable}
 use Rattle.avr_isa.specs.declared.instruction.Instr.{Instr}
 use Rattle.avr_isa.specs.declared.instruction.DecodeError.{DecodeError}
 use Rattle.unit_code.specs.Items.{next_word}
 use Rattle.unit_code.specs.Lengths.{instruction_length}
 use Rattle.unit_code.specs.declared.form.Form.{Form}
-use Rattle.unit_code.specs.Templates.{IsForm, template}
-use Rattle.harbor_spell.specs.Front.{Found, front}
+use Rattle.unit_code.specs.Templates.{template}
 use Rattle.unit_code.specs.Beside.{AreWordsOf}
-use Rattle.unit_code.specs.Spelled.{BeginWith}
-use Rattle.unit_code.specs.Beside.{StandBy, Stands, starts_from}
+use Rattle.unit_code.specs.Beside.{StandBy, Stands}
 use Rattle.harbor_spell.proofs.Fronts.{behind_encodable, front-is, template_some}
 
 same_instr : (i j : Instr) (n m : ℕ) (r : Result (Instr × ℕ) DecodeError) → r ≡ Ok (i, n) → r ≡ Ok (j, m) → i ≡ j

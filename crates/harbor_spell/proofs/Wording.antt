@@ -1,9 +1,7 @@
 -- Instructions have at most one list of words.
-use Rattle.std.proofs.Common.{◌≡◌, ◌∙◌, ℕ, zero, suc, ◌+◌, ◌≤◌, ◌<◌, ◌^◌, List, [], ◌∷◌, drop, Option, Some, None, Ok, refl, sym, ap, ap₂, subst, arith}
-use Rattle.std.specs.List.{AllByRecursion}
+use Rattle.std.proofs.Common.{◌≡◌, ◌∙◌, ℕ, zero, suc, List, [], ◌∷◌, drop, Some, None, Ok, sym, ap₂, arith}
 use Rattle.std.proofs.lemmas.Option.{same_Some}
 use Rattle.avr_isa.specs.Decoded.{decoded}
-use Rattle.avr_isa.specs.Table.{word_count}
 use Rattle.avr_isa.specs.declared.instruction.Instr.{Instr}
 use Rattle.avr_isa.proofs.TableLaws.{decoded_count, row-decoded, words_are_unique}
 use Rattle.unit_code.specs.Beside.{AreWordsOf}
@@ -21,7 +19,7 @@ step : (i : Instr) (is : List Instr) (w v : ℕ) (ws vs : List ℕ) (n : ℕ) �
 step i is w v ws vs zero small fine d e h k behind = absurd (omega (arith, (decoded_count w (next_word ws) i 0 d).0))
 step i is w v ws vs (suc zero) small fine d e h k behind =
     let same = words_are_unique w v (next_word ws) (next_word vs) i 1 1 (small.0, next_small ws small.1) (fine.0, next_small vs fine.1)
-        (row-decoded w (next_word ws) i 1 d) (row-decoded v (next_word vs) i 1 e) in
+    (row-decoded w (next_word ws) i 1 d) (row-decoded v (next_word vs) i 1 e) in
     same_list w v ws vs same.0 (behind ws vs small.1 fine.1 h k)
 step i is w v [] vs (suc (suc n)) small fine d e h k behind = absurd (omega (arith, (decoded_count w None i (suc (suc n)) d).1))
 step i is w v (x ∷ ws) [] (suc (suc n)) small fine d e h k behind = absurd (omega (arith, (decoded_count v None i (suc (suc n)) e).1))

@@ -7,7 +7,7 @@ use Rattle.mote_layout.specs.declared.page.Entry.TheVariants as entry
 use Rattle.unit_code.specs.declared.unit.Unit.{Unit}
 use Rattle.unit_code.specs.declared.unit.Unit.TheVariants as unit
 use Rattle.unit_code.specs.declared.kinds.Standing.{Standing}
-use Rattle.unit_code.specs.declared.kinds.Standing.TheVariants.{NoInstruction, Barred, Part}
+use Rattle.unit_code.specs.declared.kinds.Standing.TheVariants.{Part}
 use Rattle.unit_code.specs.declared.kinds.Piece.TheVariants as piece
 use Rattle.unit_code.specs.declared.kinds.Aim.TheVariants as aim
 use Rattle.unit_code.specs.Kinds.{standing_call, standing_of}

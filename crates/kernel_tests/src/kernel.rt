@@ -1,6 +1,7 @@
 //! Each kernel call with each answer, the turn calls, and what a kernel tells of itself.
 
-ghost use Rattle.std.specs.Prelude.{◌≡◌, [], None, length, IsSome};
+ghost use Rattle.std.specs.Prelude.{◌≡◌, ◌<◌, [], IsSome};
+ghost use Rattle.avr_machine.specs.DataRead.{IsInMemory};
 ghost use Rattle.domain_model.specs.Units.{service_of};
 ghost use Rattle.module_image.specs.Contents.{FaceRules, IsModuleId};
 
@@ -93,6 +94,56 @@ fn refused(address: u16) -> Option<Result<u16, FaultNote>> {
     }))
 }
 
+/// Puts a byte into the memory.
+fn put(k: &mut Kernel, a: u16, byte: u8)
+    requires { IsInMemory a }
+{
+    k.cpu_mut().set_ram(a, byte);
+}
+
+/// Puts a word into a pair of registers.
+fn set(k: &mut Kernel, d: u8, word: u16)
+    requires { d < 31 }
+{
+    k.cpu_mut().set_pair(d, word);
+}
+
+/// What stands at these addresses.
+fn bytes(k: &Kernel, addresses: [u16; 6]) -> [u8; 6] {
+    addresses.map(|a: u16| k.cpu().rd(a))
+}
+
+/// The end of a handler: the id of the module that ends; None outside a handler.
+fn end(k: &mut Kernel) -> Option<Option<u8>> {
+    if k.running().is_none() {
+        return None;
+    }
+    Some(k.end_handler())
+}
+
+/// Starts the handler of the next message, and tells its domain; None in a handler.
+fn next(k: &mut Kernel, lines: &mut Lines) -> Option<Option<u8>> {
+    if k.running().is_some() {
+        return None;
+    }
+    lines.clear();
+    Some(k.next_message(lines))
+}
+
+/// Takes the module in a domain out, where that can be done.
+fn unload(k: &mut Kernel, d: u8) -> bool {
+    if k.running().is_some() || k.module_at(d).is_none() {
+        return false;
+    }
+    k.purge(d);
+    true
+}
+
+/// The id, the state's address and the handler's unit of the module in a domain.
+fn row(k: &Kernel, d: u8) -> Option<(u8, u16, u16)> {
+    k.module_at(d).map(|row| (row.id, row.state, row.handler))
+}
+
 /// Whether the running domain may store; None outside a handler.
 fn may_store(k: &Kernel, a: u16) -> Option<bool> {
     if k.running().is_none() {
@@ -113,8 +164,8 @@ fn gives_blocks(rt: HostRuntime) -> Result<(), Fail> {
     let mut k = Kernel::new(rt.alloc())?;
     let mut lines = Lines::new(rt.alloc())?;
     assert!(rt; in_handler(&mut k, &mut lines));
-    k.cpu_mut().set_ram(0x0208, 7);
-    k.cpu_mut().set_ram(0x0DFF, 7);
+    put(&mut k, 0x0208, 7);
+    put(&mut k, 0x0DFF, 7);
     for (size, address) in [(3072, 0), (3064, 0x0208), (0, 0), (1, 0)] {
         assert_eq!(rt;
             call(&mut k, MALLOC, size, 0, &mut lines),
@@ -122,14 +173,28 @@ fn gives_blocks(rt: HostRuntime) -> Result<(), Fail> {
             "{size}"
         );
     }
-    assert_eq!(rt; (k.cpu().rd(0x0208), k.cpu().rd(0x0DFF)), (0, 0));
+    assert_eq!(rt;
+        bytes(&k, [0x0208, 0x0DFF, 24, 25, 0x5D, 0x5E]),
+        [0, 0, 0, 0, 0xFF, 0x10]
+    );
     assert_eq!(rt; may_store(&k, 0x0DFF), Some(true));
     assert_eq!(rt; may_store(&k, 0x0E00), Some(false));
-    k.cpu_mut().set_ram(0x0208, 9);
+    Ok(())
+}
+
+#[test]
+fn frees_blocks(rt: HostRuntime) -> Result<(), Fail> {
+    let mut k = Kernel::new(rt.alloc())?;
+    let mut lines = Lines::new(rt.alloc())?;
+    assert!(rt; in_handler(&mut k, &mut lines));
+    put(&mut k, 0x0200, 9);
+    assert_eq!(rt; may_store(&k, 0x0200), Some(true));
     assert_eq!(rt; call(&mut k, FREE, 0x0201, 0, &mut lines), refused(0x0201));
-    assert_eq!(rt; call(&mut k, FREE, 0x0208, 0, &mut lines), Some(Ok(0)));
-    assert_eq!(rt; call(&mut k, FREE, 0x0208, 0, &mut lines), refused(0x0208));
-    assert_eq!(rt; k.cpu().rd(0x0208), 9);
+    // The state block goes like any other, and its module may not store there any more.
+    assert_eq!(rt; call(&mut k, FREE, 0x0200, 0, &mut lines), Some(Ok(0)));
+    assert_eq!(rt; call(&mut k, FREE, 0x0200, 0, &mut lines), refused(0x0200));
+    assert_eq!(rt; may_store(&k, 0x0200), Some(false));
+    assert_eq!(rt; bytes(&k, [0x0200; 6]), [9; 6]);
     Ok(())
 }
 
@@ -153,13 +218,6 @@ fn hands_blocks_on(rt: HostRuntime) -> Result<(), Fail> {
             "to {owner}"
         );
     }
-    assert_eq!(rt; call(&mut k, MALLOC, 9, 0, &mut lines), Some(Ok(0x0208)));
-    assert_eq!(rt;
-        call(&mut k, CHANGE_OWN, 0x0210, 3, &mut lines),
-        refused(0x0210)
-    );
-    assert_eq!(rt; may_store(&k, 0x0217), Some(true));
-    assert_eq!(rt; may_store(&k, 0x0218), Some(false));
     Ok(())
 }
 
@@ -178,7 +236,6 @@ fn tells_what_it_is_asked(rt: HostRuntime) -> Result<(), Fail> {
         [TraceLine::Say { time, id, byte }] => assert_eq!(rt; (*time, *id, *byte), (65_541, 1, 65)),
         _ => assert!(rt; false, "one line"),
     }
-    assert_eq!(rt; k.cpu().pair(22), 2);
     Ok(())
 }
 
@@ -187,8 +244,8 @@ fn posts_and_dispatches(rt: HostRuntime) -> Result<(), Fail> {
     let mut k = Kernel::new(rt.alloc())?;
     let mut lines = Lines::new(rt.alloc())?;
     assert!(rt; in_handler(&mut k, &mut lines));
-    k.cpu_mut().set_pair(20, 0x0042);
-    k.cpu_mut().set_pair(18, 0x1234);
+    set(&mut k, 20, 0x0942);
+    set(&mut k, 18, 0x1234);
     assert_eq!(rt; call(&mut k, POST_SHORT, 3, 9, &mut lines), Some(Ok(2)));
     for i in 0..17 {
         let answer = if i < 16 { 0 } else { 1 };
@@ -198,37 +255,40 @@ fn posts_and_dispatches(rt: HostRuntime) -> Result<(), Fail> {
             "post {i}"
         );
     }
-    k.cpu_mut().set_pair(16, 0xFF01);
+    set(&mut k, 16, 0xFF01);
     assert_eq!(rt; call(&mut k, POST_SHORT, 2, 10, &mut lines), Some(Ok(0)));
-    assert!(rt; k.running().is_some());
-    assert_eq!(rt; k.end_handler(), None);
-    for (sort, word) in [(10, 0x1234), (9, 0x1234)] {
-        assert!(rt; k.running().is_none());
-        lines.clear();
-        assert_eq!(rt; k.next_message(&mut lines), Some(1), "type {sort}");
-        let cpu = k.cpu();
-        let frame = [0x0100, 0x0101, 0x0102, 0x0103, 0x0104, 0x0107].map(|a: u16| cpu.rd(a));
-        assert_eq!(rt; frame, [sort, 1, 2, 0, 0x42, 0], "type {sort}");
+    assert_eq!(rt; end(&mut k), Some(None));
+    // The high queue comes before the low one.
+    for sort in [10, 9] {
+        assert_eq!(rt; next(&mut k, &mut lines), Some(Some(1)), "type {sort}");
         assert_eq!(rt;
-            u16::from(cpu.rd(0x0105)) + 256 * u16::from(cpu.rd(0x0106)),
-            word
+            bytes(&k, [0x0100, 0x0101, 0x0102, 0x0103, 0x0104, 0x0105]),
+            [sort, 1, 2, 0, 0x42, 0x34]
         );
-        assert_eq!(rt; (cpu.pair(22), cpu.pair(24), cpu.sp), (0x0100, 0, 0x10FF));
-        assert!(rt; k.running().is_some());
-        assert_eq!(rt; k.end_handler(), None);
+        assert_eq!(rt;
+            bytes(&k, [0x0106, 20, 22, 23, 24, 25]),
+            [0x12, 0, 0, 1, 0, 0]
+        );
+        assert_eq!(rt; end(&mut k), Some(None));
     }
+    Ok(())
+}
+
+#[test]
+fn a_module_goes_with_its_messages(rt: HostRuntime) -> Result<(), Fail> {
+    let mut k = Kernel::new(rt.alloc())?;
+    let mut lines = Lines::new(rt.alloc())?;
+    assert!(rt; in_handler(&mut k, &mut lines));
+    assert_eq!(rt; call(&mut k, POST_SHORT, 2, 9, &mut lines), Some(Ok(0)));
+    assert_eq!(rt; end(&mut k), Some(None));
     assert!(rt; start(&mut k, 0, true, &mut lines));
-    assert!(rt; k.running().is_some());
-    assert_eq!(rt; k.end_handler(), Some(1));
+    assert_eq!(rt; end(&mut k), Some(Some(1)));
     assert!(rt; k.has_message());
-    assert!(rt; k.running().is_none() && k.module_at(0).is_some());
-    k.purge(0);
+    assert!(rt; unload(&mut k, 0));
     assert!(rt; !k.has_message());
-    assert_eq!(rt; (k.module_at(0), k.module_named(1)), (None, None));
-    assert_eq!(rt;
-        k.module_named(2).map(|row| (row.domain, row.handler)),
-        Some((1, 3))
-    );
+    assert_eq!(rt; (row(&k, 0), row(&k, 1)), (None, Some((2, 0, 3))));
+    assert_eq!(rt; load(&mut k, 1, 8), Some(Admitted::Placed(0)));
+    assert_eq!(rt; row(&k, 0), Some((1, 0x0200, 3)));
     Ok(())
 }
 
@@ -245,13 +305,9 @@ fn admits_by_the_first_refusal(rt: HostRuntime) -> Result<(), Fail> {
     }
     assert_eq!(rt; load(&mut k, 15, 8), Some(Admitted::Duplicate));
     assert_eq!(rt; load(&mut k, 16, 3072), Some(Admitted::Domain));
-    assert!(rt; k.running().is_none() && k.module_at(4).is_some());
-    k.purge(4);
+    assert!(rt; unload(&mut k, 4));
     assert_eq!(rt; load(&mut k, 16, 3072), Some(Admitted::Room));
     assert_eq!(rt; load(&mut k, 16, 8), Some(Admitted::Placed(4)));
-    assert_eq!(rt;
-        k.module_at(4).map(|row| (row.id, row.state)),
-        Some((16, 0x0220))
-    );
+    assert_eq!(rt; row(&k, 4), Some((16, 0x0220, 3)));
     Ok(())
 }

@@ -12,7 +12,7 @@ use std::test::Fail;
 use unit_code::{CodeError, Shape, Unit, UnitList, spelled_len, units};
 
 /// The words as bytes, low byte first.
-fn bytes_of(alloc: Global, words: &[u16]) -> Result<Vec<u8>, AllocError> {
+pub fn bytes_of(alloc: Global, words: &[u16]) -> Result<Vec<u8>, AllocError> {
     let mut bytes = Vec::new(alloc);
     for word in words {
         for byte in word.to_le_bytes() {
@@ -81,7 +81,7 @@ fn is_same_instruction(found: &Instr, wanted: &Instr) -> bool {
     }
 }
 
-fn is_same_unit(found: &Unit, wanted: &Unit) -> bool {
+pub fn is_same_unit(found: &Unit, wanted: &Unit) -> bool {
     match (found, wanted) {
         (Plain(a), Plain(b)) => is_same_instruction(a, b),
         (Store(a), Store(b)) => is_same_instruction(a, b),

@@ -5,15 +5,16 @@ use Rattle.mote_base.specs.Files.{Named}
 use Rattle.mote_base.specs.Written.{Grows}
 use Rattle.mote_base.specs.declared.fault.Status.{Status}
 use Rattle.mote_base.specs.declared.fault.Status.TheVariants.{Done, Usage, Refused, ReadFault, WriteFault, NoMemory}
-use Rattle.domain_model.specs.declared.request.Kind.TheVariants.{Run, Listing, Upgrade, Seal}
+use Rattle.domain_model.specs.declared.request.Kind.TheVariants as kinds
+use Rattle.domain_model.specs.declared.request.Tool.{Tool}
 use Rattle.domain_model.specs.Command.{Command}
-use Rattle.mote_sim.specs.Clauses.{WritesRun, WritesListing, WritesUpgrade, WritesSeal, Refuses, HasStatus, WritesFront}
+use Rattle.mote_sim.specs.Clauses.{WritesRun, WritesTool, RefusesFiles, HasStatus, WritesFront}
 use Rattle.mote_sim.specs.Ending.{Ends, Answered, CutOff, IsAnswer}
 use Rattle.mote_sim.specs.Reading.{Gathered}
 use Rattle.mote_sim.specs.Outcome.{outcome, Answers, AnswersOver, usage_line}
 use Rattle.mote_sim.proofs.Counts.{HasItsFiles}
 use Rattle.mote_sim.proofs.Inversion.{over_told, writes_run, usage_answers, refuses, has_status}
-use Rattle.mote_sim.proofs.OneImage.{writes_listing, writes_upgrade, writes_seal}
+use Rattle.mote_sim.proofs.OneFile.{writes_tool}
 
 -- What Done says where the shelf tells its files and the sink its bytes.
 record IsDone (command : Option Command) (fs : List Named) (before : List ℕ) (new : Option (List ℕ)) : Type 0 where
@@ -30,32 +31,22 @@ done w f l a b m n files came command s ends is fs before told known =
       written = e.wrote.grows before known;
     }
 
-pub headline : {K : Type 0} (w : K → Option (List ℕ)) (f : K → ℕ) (l : K → List ℕ → Bool → K → Type 0) (a b : K) (m n : ℕ) (files : Option (List Named)) (came : Command → Gathered → Type 0) (command : Option Command) (s : Status) → ((c : Command) → command ≡ Some c → HasItsFiles c) → Ends w f l a b m n (AnswersOver files came command) s → s ≡ Done → (units handler : ℕ) (names : List (List ℕ)) (fs : List Named) (before : List ℕ) → command ≡ Some (record { kind = Run units handler; files = names }) → files ≡ Some fs → w a ≡ Some before → WritesRun units handler names fs before (w b)
+pub headline : {K : Type 0} (w : K → Option (List ℕ)) (f : K → ℕ) (l : K → List ℕ → Bool → K → Type 0) (a b : K) (m n : ℕ) (files : Option (List Named)) (came : Command → Gathered → Type 0) (command : Option Command) (s : Status) → ((c : Command) → command ≡ Some c → HasItsFiles c) → Ends w f l a b m n (AnswersOver files came command) s → s ≡ Done → (units handler : ℕ) (names : List (List ℕ)) (fs : List Named) (before : List ℕ) → command ≡ Some (record { kind = kinds.Run units handler; files = names }) → files ≡ Some fs → w a ≡ Some before → WritesRun units handler names fs before (w b)
 headline w f l a b m n files came command s few ends is units handler names fs before asks told known =
     let e = done w f l a b m n files came command s ends is fs before told known in
     writes_run units handler fs names e.text before (w b) (few _ asks) (subst (λ c. Answers (outcome c fs) Done e.text) asks e.answer) e.written
 
-pub listing : {K : Type 0} (w : K → Option (List ℕ)) (f : K → ℕ) (l : K → List ℕ → Bool → K → Type 0) (a b : K) (m n : ℕ) (files : Option (List Named)) (came : Command → Gathered → Type 0) (command : Option Command) (s : Status) → ((c : Command) → command ≡ Some c → HasItsFiles c) → Ends w f l a b m n (AnswersOver files came command) s → s ≡ Done → (names : List (List ℕ)) (fs : List Named) (before : List ℕ) → command ≡ Some (record { kind = Listing; files = names }) → files ≡ Some fs → w a ≡ Some before → WritesListing names fs before (w b)
-listing w f l a b m n files came command s few ends is names fs before asks told known =
+pub tools : {K : Type 0} (w : K → Option (List ℕ)) (f : K → ℕ) (l : K → List ℕ → Bool → K → Type 0) (a b : K) (m n : ℕ) (files : Option (List Named)) (came : Command → Gathered → Type 0) (command : Option Command) (s : Status) → ((c : Command) → command ≡ Some c → HasItsFiles c) → Ends w f l a b m n (AnswersOver files came command) s → s ≡ Done → (tool : Tool) (names : List (List ℕ)) (fs : List Named) (before : List ℕ) → command ≡ Some (record { kind = kinds.Tool tool; files = names }) → files ≡ Some fs → w a ≡ Some before → WritesTool tool names fs before (w b)
+tools w f l a b m n files came command s few ends is tool names fs before asks told known =
     let e = done w f l a b m n files came command s ends is fs before told known in
-    writes_listing fs names e.text before (w b) (few _ asks) (subst (λ c. Answers (outcome c fs) Done e.text) asks e.answer) e.written
-
-pub upgrading : {K : Type 0} (w : K → Option (List ℕ)) (f : K → ℕ) (l : K → List ℕ → Bool → K → Type 0) (a b : K) (m n : ℕ) (files : Option (List Named)) (came : Command → Gathered → Type 0) (command : Option Command) (s : Status) → ((c : Command) → command ≡ Some c → HasItsFiles c) → Ends w f l a b m n (AnswersOver files came command) s → s ≡ Done → (names : List (List ℕ)) (fs : List Named) (before : List ℕ) → command ≡ Some (record { kind = Upgrade; files = names }) → files ≡ Some fs → w a ≡ Some before → WritesUpgrade names fs before (w b)
-upgrading w f l a b m n files came command s few ends is names fs before asks told known =
-    let e = done w f l a b m n files came command s ends is fs before told known in
-    writes_upgrade fs names e.text before (w b) (few _ asks) (subst (λ c. Answers (outcome c fs) Done e.text) asks e.answer) e.written
-
-pub sealing : {K : Type 0} (w : K → Option (List ℕ)) (f : K → ℕ) (l : K → List ℕ → Bool → K → Type 0) (a b : K) (m n : ℕ) (files : Option (List Named)) (came : Command → Gathered → Type 0) (command : Option Command) (s : Status) → ((c : Command) → command ≡ Some c → HasItsFiles c) → Ends w f l a b m n (AnswersOver files came command) s → s ≡ Done → (names : List (List ℕ)) (fs : List Named) (before : List ℕ) → command ≡ Some (record { kind = Seal; files = names }) → files ≡ Some fs → w a ≡ Some before → WritesSeal names fs before (w b)
-sealing w f l a b m n files came command s few ends is names fs before asks told known =
-    let e = done w f l a b m n files came command s ends is fs before told known in
-    writes_seal fs names e.text before (w b) (few _ asks) (subst (λ c. Answers (outcome c fs) Done e.text) asks e.answer) e.written
+    writes_tool tool fs names e.text before (w b) (few _ asks) (subst (λ c. Answers (outcome c fs) Done e.text) asks e.answer) e.written
 
 pub usage : {K : Type 0} (w : K → Option (List ℕ)) (f : K → ℕ) (l : K → List ℕ → Bool → K → Type 0) (a b : K) (m n : ℕ) (files : Option (List Named)) (came : Command → Gathered → Type 0) (command : Option Command) (s : Status) → Ends w f l a b m n (AnswersOver files came command) s → s ≡ Usage → (command ≡ None) × Grows (w a) (w b) usage_line
 usage w f l a b m n files came command s ends is =
     let e = subst (λ r. Ends w f l a b m n (AnswersOver files came command) r) is ends in
     let u = usage_answers files came command e.text e.answer in (u.0, subst (λ t. Grows (w a) (w b) t) u.1 e.wrote.grows)
 
-pub refused : {K : Type 0} (w : K → Option (List ℕ)) (f : K → ℕ) (l : K → List ℕ → Bool → K → Type 0) (a b : K) (m n : ℕ) (files : Option (List Named)) (came : Command → Gathered → Type 0) (command : Option Command) (s : Status) → Ends w f l a b m n (AnswersOver files came command) s → s ≡ Refused → (fs : List Named) → files ≡ Some fs → Refuses (outcome command fs) (w a) (w b)
+pub refused : {K : Type 0} (w : K → Option (List ℕ)) (f : K → ℕ) (l : K → List ℕ → Bool → K → Type 0) (a b : K) (m n : ℕ) (files : Option (List Named)) (came : Command → Gathered → Type 0) (command : Option Command) (s : Status) → Ends w f l a b m n (AnswersOver files came command) s → s ≡ Refused → (fs : List Named) → files ≡ Some fs → RefusesFiles (outcome command fs) (w a) (w b)
 refused w f l a b m n files came command s ends is fs told =
     let e = subst (λ r. Ends w f l a b m n (AnswersOver files came command) r) is ends in
     refuses (outcome command fs) e.text (w a) (w b) (over_told files came command fs Refused e.text told e.answer) e.wrote.grows

@@ -3,7 +3,7 @@ use Rattle.std.proofs.Common.{◌≡◌, ℕ, ◌+◌, ◌≤◌, suc, arith, Li
 use Rattle.std.specs.Prelude.{IsTrue, nat_le, ◌==◌}
 use Rattle.std.proofs.lemmas.Bool.{leb-true, eqb-true}
 use Rattle.mote_layout.specs.Limits.{images_limit}
-use Rattle.domain_model.specs.declared.request.Kind.TheVariants.{Run}
+use Rattle.domain_model.specs.declared.request.Kind.TheVariants as kinds
 use Rattle.domain_model.specs.Command.{Command, takes, command_of}
 use Rattle.domain_model.proofs.CommandLaws.{commands_are_by_rules}
 use Rattle.mote_sim.proofs.Images.{both_true}
@@ -16,10 +16,10 @@ pub has_its_files : (words : List (List ℕ)) (c : Command) → command_of words
 has_its_files words c e = ((commands_are_by_rules words c).0 e).number
 
 -- A run has an image, and no more than the limit.
-pub one_at_least : (units handler n : ℕ) → IsTrue (takes (Run units handler) (suc n)) → 1 ≤ n
+pub one_at_least : (units handler n : ℕ) → IsTrue (takes (kinds.Run units handler) (suc n)) → 1 ≤ n
 one_at_least units handler n is = let low = leb-true 2 (suc n) (both_true (nat_le 2 (suc n)) (nat_le (suc n) (1 + images_limit)) is).0 in omega (arith, low)
 
-pub most_images : (units handler n : ℕ) → IsTrue (takes (Run units handler) (suc n)) → n ≤ images_limit
+pub most_images : (units handler n : ℕ) → IsTrue (takes (kinds.Run units handler) (suc n)) → n ≤ images_limit
 most_images units handler n is =
     let high = leb-true (suc n) (1 + images_limit) (both_true (nat_le 2 (suc n)) (nat_le (suc n) (1 + images_limit)) is).1 in omega (arith, high)
 

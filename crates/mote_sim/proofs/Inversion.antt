@@ -1,5 +1,5 @@
 -- What an answer says of the files and of the words.
-use Rattle.std.proofs.Common.{◌≡◌, ◌∙◌, ℕ, zero, suc, ◌+◌, ◌≤◌, refl, sym, ap, subst, arith, Bool, ◌&&◌, ◌||◌, true, false, nat_lt, ◌==◌, if◌then◌else◌, List, [], ◌∷◌, ◌++◌, length, Option, Some, None, Result, Ok, Err}
+use Rattle.std.proofs.Common.{◌≡◌, ◌∙◌, ℕ, zero, suc, ◌+◌, ◌≤◌, refl, sym, ap, subst, arith, Bool, ◌&&◌, true, false, nat_lt, if◌then◌else◌, List, [], ◌∷◌, ◌++◌, length, Option, Some, None, Result, Ok, Err}
 use Rattle.std.proofs.Math.Dec.{eqb-suc-zero}
 use Rattle.std.proofs.lemmas.Bool.{ltb-false}
 use Rattle.mote_base.specs.Files.{Named, held}
@@ -7,22 +7,19 @@ use Rattle.mote_base.specs.Written.{Grows}
 use Rattle.mote_base.specs.declared.fault.Status.{Status}
 use Rattle.mote_base.specs.declared.fault.Status.TheVariants.{Done, Usage, Refused}
 use Rattle.mote_layout.specs.Limits.{script_limit, image_limit}
-use Rattle.unit_code.specs.declared.error.CodeError.{CodeError}
-use Rattle.unit_code.specs.Units.{refusal}
-use Rattle.module_image.specs.declared.error.ImageError.{ImageError}
-use Rattle.module_image.specs.Contents.{Contents, first_version}
-use Rattle.module_image.specs.Reading.{image_of}
 use Rattle.domain_model.specs.declared.script.Event.{Event}
 use Rattle.domain_model.specs.declared.request.Kind.{Kind}
-use Rattle.domain_model.specs.declared.request.Kind.TheVariants.{Run, Listing, Upgrade, Seal}
+use Rattle.domain_model.specs.declared.request.Kind.TheVariants as kinds
+use Rattle.domain_model.specs.declared.request.Tool.{Tool}
 use Rattle.domain_model.specs.Command.{Command, limit_of}
-use Rattle.domain_model.specs.Prepared.{marks_of}
 use Rattle.domain_model.specs.Loader.{are_for_loader}
 use Rattle.event_script.specs.declared.error.ScriptError.{ScriptError}
 use Rattle.event_script.specs.Refusals.{refusal_of, events_of}
 use Rattle.domain_model.specs.State.{Input}
-use Rattle.mote_sim.specs.Clauses.{AreImages, WritesRun, Refuses, HasStatus}
-use Rattle.mote_sim.specs.Outcome.{Outcome, NoCommand, Unheld, TooLong, BadScript, Unbuilt, Runs, BadImage, BadCode, Lists, IsUpgraded, IsAlready, Writes, outcome, outcome_of, outcome_by, outcome_with, outcome_of_script, outcome_of_code, outcome_of_contents, outcome_of_image, outcome_of_first, outcome_of_upgrading, outcome_of_original, outcome_of_sealing, Answers, MayFind, AnswersOver, usage_line}
+use Rattle.mote_sim.specs.Clauses.{AreImages, WritesRun, RefusesFiles, HasStatus, HasToolStatus}
+use Rattle.mote_sim.specs.Outcome.{Outcome, NoCommand, Unheld, Refuses, Runs, Makes, outcome, outcome_of, outcome_by, outcome_with, outcome_of_script, Answers, MayFind, AnswersOver, usage_line}
+use Rattle.mote_sim.specs.Refusal.{Refusal}
+use Rattle.mote_sim.specs.Tools.{Output, IsMadeBy, Tells}
 use Rattle.mote_sim.specs.Reading.{Gathered, Whole, Longer, Missing, gathered_from, gathered_file, with_first}
 use Rattle.mote_sim.specs.Trace.{IsTraceOf, run_input, are_built, input_with, input_of}
 use Rattle.mote_sim.proofs.Counts.{HasItsFiles, one_at_least, most_images}
@@ -71,15 +68,15 @@ all_whole kind (Longer n) text a = let e : Done ≡ Refused = a.0 in absurd (cc)
 all_whole kind Missing text a = absurd a
 
 -- What files other than the first come to: they are images within their limit.
-later_limit : (units handler number : ℕ) → 1 ≤ number → limit_of (Run units handler) number ≡ image_limit
+later_limit : (units handler number : ℕ) → 1 ≤ number → limit_of (kinds.Run units handler) number ≡ image_limit
 later_limit units handler zero low = absurd (omega (arith, low))
 later_limit units handler (suc n) low = ap (λ t. if t then script_limit else image_limit) (eqb-suc-zero n)
 
-images_whole : (units handler number : ℕ) (fs : List Named) (names files : List (List ℕ)) → 1 ≤ number → gathered_from (Run units handler) number fs names ≡ Whole files → AreImages fs names files
+images_whole : (units handler number : ℕ) (fs : List Named) (names files : List (List ℕ)) → 1 ≤ number → gathered_from (kinds.Run units handler) number fs names ≡ Whole files → AreImages fs names files
 images_whole units handler number fs [] [] low e = tt
 images_whole units handler number fs [] (file ∷ files) low e = absurd (cc)
 images_whole units handler number fs (name ∷ names) files low e =
-    let one = first_of number (limit_of (Run units handler) number) (held fs name) (gathered_from (Run units handler) (number + 1) fs names) files e in
+    let one = first_of number (limit_of (kinds.Run units handler) number) (held fs name) (gathered_from (kinds.Run units handler) (number + 1) fs names) files e in
     let others = images_whole units handler (number + 1) fs names one.rest (omega (arith, low)) one.others_are in
     subst (AreImages fs (name ∷ names)) (sym one.files_are)
     (one.held, subst (λ limit. length one.bytes ≤ limit) (later_limit units handler number low) one.fits, others)
@@ -102,15 +99,15 @@ built units handler images events None text a =
     let parts = runs units handler images events (are_for_loader events) (are_built images) text a in
     record { none = refl; loads = parts.0; all = parts.1; trace = parts.2 }
 
-built_from : (units handler : ℕ) (files images : List (List ℕ)) (script text : List ℕ) → files ≡ script ∷ images → Answers (outcome_by (Run units handler) files) Done text → Built units handler images (events_of script) (refusal_of (length images) script) text
+built_from : (units handler : ℕ) (files images : List (List ℕ)) (script text : List ℕ) → files ≡ script ∷ images → Answers (outcome_by (kinds.Run units handler) files) Done text → Built units handler images (events_of script) (refusal_of (length images) script) text
 built_from units handler files images script text is a =
-    built units handler images (events_of script) (refusal_of (length images) script) text (subst (λ xs. Answers (outcome_by (Run units handler) xs) Done text) is a)
+    built units handler images (events_of script) (refusal_of (length images) script) text (subst (λ xs. Answers (outcome_by (kinds.Run units handler) xs) Done text) is a)
 
-pub writes_run : (units handler : ℕ) (fs : List Named) (names : List (List ℕ)) (text before : List ℕ) (new : Option (List ℕ)) → HasItsFiles (record { kind = Run units handler; files = names }) → Answers (outcome_of (Run units handler) (gathered_from (Run units handler) 0 fs names)) Done text → new ≡ Some (before ++ text) → WritesRun units handler names fs before new
+pub writes_run : (units handler : ℕ) (fs : List Named) (names : List (List ℕ)) (text before : List ℕ) (new : Option (List ℕ)) → HasItsFiles (record { kind = kinds.Run units handler; files = names }) → Answers (outcome_of (kinds.Run units handler) (gathered_from (kinds.Run units handler) 0 fs names)) Done text → new ≡ Some (before ++ text) → WritesRun units handler names fs before new
 writes_run units handler fs [] text before new few a written = absurd a
 writes_run units handler fs (s ∷ names) text before new few a written =
-    let w = all_whole (Run units handler) (gathered_from (Run units handler) 0 fs (s ∷ names)) text a in
-    let one = first_of 0 (limit_of (Run units handler) 0) (held fs s) (gathered_from (Run units handler) 1 fs names) w.files w.is in
+    let w = all_whole (kinds.Run units handler) (gathered_from (kinds.Run units handler) 0 fs (s ∷ names)) text a in
+    let one = first_of 0 (limit_of (kinds.Run units handler) 0) (held fs s) (gathered_from (kinds.Run units handler) 1 fs names) w.files w.is in
     let b = built_from units handler w.files one.rest one.bytes text one.files_are w.answer in
     record {
       script_name = s;
@@ -133,20 +130,18 @@ writes_run units handler fs (s ∷ names) text before new few a written =
       written = written ∙ ap (λ t. Some (before ++ t)) b.trace.spelled;
     }
 
+-- Usage tells of no tool.
+not_usage : (made : Result Output Refusal) (text : List ℕ) → Tells made Usage text → ⊥
+not_usage (Ok output) text told = let e : Usage ≡ Done = told.0 in absurd (cc)
+not_usage (Err refusal) text told = let e : Usage ≡ Refused = told.0 in absurd (cc)
+
 -- Usage answers no command alone.
 usage_outcome : (found : Outcome) (text : List ℕ) → Answers found Usage text → (found ≡ NoCommand) × (text ≡ usage_line)
 usage_outcome NoCommand text a = (refl, a.1)
 usage_outcome Unheld text a = absurd a
-usage_outcome (TooLong n) text a = let e : Usage ≡ Refused = a.0 in absurd (cc)
-usage_outcome (BadScript error) text a = let e : Usage ≡ Refused = a.0 in absurd (cc)
-usage_outcome Unbuilt text a = let e : Usage ≡ Refused = a.0 in absurd (cc)
+usage_outcome (Refuses refusal) text a = let e : Usage ≡ Refused = a.0 in absurd (cc)
 usage_outcome (Runs i) text a = let e : Usage ≡ Done = a.0 in absurd (cc)
-usage_outcome (BadImage error) text a = let e : Usage ≡ Refused = a.0 in absurd (cc)
-usage_outcome (BadCode error) text a = let e : Usage ≡ Refused = a.0 in absurd (cc)
-usage_outcome (Lists l) text a = let e : Usage ≡ Done = a.0 in absurd (cc)
-usage_outcome IsUpgraded text a = let e : Usage ≡ Refused = a.0 in absurd (cc)
-usage_outcome IsAlready text a = let e : Usage ≡ Refused = a.0 in absurd (cc)
-usage_outcome (Writes c) text a = let e : Usage ≡ Done = a.0 in absurd (cc)
+usage_outcome (Makes tool file) text a = absurd (not_usage a.made text a.told)
 
 with_is_command : (i : Option Input) → outcome_with i ≡ NoCommand → ⊥
 with_is_command None e = cc
@@ -156,46 +151,12 @@ script_is_command : (units handler : ℕ) (refused : Option ScriptError) (events
 script_is_command units handler (Some error) events images e = cc
 script_is_command units handler None events images e = with_is_command (input_of units handler events images) e
 
-code_is_command : (c : Contents) (refused : Option CodeError) → outcome_of_code c refused ≡ NoCommand → ⊥
-code_is_command c (Some error) e = cc
-code_is_command c None e = cc
-
-contents_is_command : (rewritten : Bool) (c : Contents) → outcome_of_contents rewritten c ≡ NoCommand → ⊥
-contents_is_command true c e = cc
-contents_is_command false c e = code_is_command c (refusal c.code (marks_of c) c.sealed) e
-
-image_is_command : (read : Result Contents ImageError) → outcome_of_image read ≡ NoCommand → ⊥
-image_is_command (Err error) e = cc
-image_is_command (Ok c) e = contents_is_command c.rewritten c e
-
-first_is_command : (first : Bool) (c : Contents) → outcome_of_first first c ≡ NoCommand → ⊥
-first_is_command true c e = cc
-first_is_command false c e = cc
-
-upgrading_is_command : (read : Result Contents ImageError) → outcome_of_upgrading read ≡ NoCommand → ⊥
-upgrading_is_command (Err error) e = cc
-upgrading_is_command (Ok c) e = first_is_command (c.version == first_version) c e
-
-original_is_command : (already : Bool) (c : Contents) → outcome_of_original already c ≡ NoCommand → ⊥
-original_is_command true c e = cc
-original_is_command false c e = cc
-
-sealing_is_command : (read : Result Contents ImageError) → outcome_of_sealing read ≡ NoCommand → ⊥
-sealing_is_command (Err error) e = cc
-sealing_is_command (Ok c) e = original_is_command (c.rewritten || c.sealed) c e
-
 by_is_command : (kind : Kind) (files : List (List ℕ)) → outcome_by kind files ≡ NoCommand → ⊥
-by_is_command (Run units handler) [] e = cc
-by_is_command (Run units handler) (script ∷ images) e = script_is_command units handler (refusal_of (length images) script) (events_of script) images e
-by_is_command Listing [] e = cc
-by_is_command Listing (file ∷ []) e = image_is_command (image_of file) e
-by_is_command Listing (file ∷ other ∷ files) e = cc
-by_is_command Upgrade [] e = cc
-by_is_command Upgrade (file ∷ []) e = upgrading_is_command (image_of file) e
-by_is_command Upgrade (file ∷ other ∷ files) e = cc
-by_is_command Seal [] e = cc
-by_is_command Seal (file ∷ []) e = sealing_is_command (image_of file) e
-by_is_command Seal (file ∷ other ∷ files) e = cc
+by_is_command (kinds.Run units handler) [] e = cc
+by_is_command (kinds.Run units handler) (script ∷ images) e = script_is_command units handler (refusal_of (length images) script) (events_of script) images e
+by_is_command (kinds.Tool tool) [] e = cc
+by_is_command (kinds.Tool tool) (file ∷ []) e = cc
+by_is_command (kinds.Tool tool) (file ∷ other ∷ files) e = cc
 
 is_command : (kind : Kind) (found : Gathered) → outcome_of kind found ≡ NoCommand → ⊥
 is_command kind (Whole files) e = by_is_command kind files e
@@ -210,32 +171,27 @@ pub usage_answers : (files : Option (List Named)) (came : Command → Gathered �
 usage_answers files came command text a =
     let u = usage_outcome a.found text a.answer in (no_command files came command a.found u.0 a.may, u.1)
 
+-- Refused tells of a refusal of the tool, with its line.
+tool_refuses : (tool : Tool) (file text : List ℕ) (old new : Option (List ℕ)) (made : Result Output Refusal) → IsMadeBy tool file made → Tells made Refused text → Grows old new text → RefusesFiles (Makes tool file) old new
+tool_refuses tool file text old new (Ok output) is told grows = let e : Refused ≡ Done = told.0 in absurd (cc)
+tool_refuses tool file text old new (Err refusal) is told grows = (refusal, is, subst (λ t. Grows old new t) told.1 grows)
+
+tool_status : (made : Result Output Refusal) (s : Status) (text : List ℕ) → Tells made s text → HasToolStatus made s
+tool_status (Ok output) s text told = told.0
+tool_status (Err refusal) s text told = told.0
+
 -- Refused answers a refusal, with its line.
-pub refuses : (found : Outcome) (text : List ℕ) (old new : Option (List ℕ)) → Answers found Refused text → Grows old new text → Refuses found old new
+pub refuses : (found : Outcome) (text : List ℕ) (old new : Option (List ℕ)) → Answers found Refused text → Grows old new text → RefusesFiles found old new
 refuses NoCommand text old new a grows = let e : Refused ≡ Usage = a.0 in absurd (cc)
 refuses Unheld text old new a grows = absurd a
-refuses (TooLong n) text old new a grows = subst (λ t. Grows old new t) a.1 grows
-refuses (BadScript error) text old new a grows = subst (λ t. Grows old new t) a.1 grows
-refuses Unbuilt text old new a grows = subst (λ t. Grows old new t) a.1 grows
+refuses (Refuses refusal) text old new a grows = subst (λ t. Grows old new t) a.1 grows
 refuses (Runs i) text old new a grows = let e : Refused ≡ Done = a.0 in absurd (cc)
-refuses (BadImage error) text old new a grows = subst (λ t. Grows old new t) a.1 grows
-refuses (BadCode error) text old new a grows = subst (λ t. Grows old new t) a.1 grows
-refuses (Lists l) text old new a grows = let e : Refused ≡ Done = a.0 in absurd (cc)
-refuses IsUpgraded text old new a grows = subst (λ t. Grows old new t) a.1 grows
-refuses IsAlready text old new a grows = subst (λ t. Grows old new t) a.1 grows
-refuses (Writes c) text old new a grows = let e : Refused ≡ Done = a.0 in absurd (cc)
+refuses (Makes tool file) text old new a grows = tool_refuses tool file text old new a.made a.is_made a.told grows
 
 -- Each answer has the status of its outcome.
 pub has_status : (found : Outcome) (s : Status) (text : List ℕ) → Answers found s text → HasStatus found s
 has_status NoCommand s text a = a.0
 has_status Unheld s text a = a
-has_status (TooLong n) s text a = a.0
-has_status (BadScript error) s text a = a.0
-has_status Unbuilt s text a = a.0
+has_status (Refuses refusal) s text a = a.0
 has_status (Runs i) s text a = a.0
-has_status (BadImage error) s text a = a.0
-has_status (BadCode error) s text a = a.0
-has_status (Lists l) s text a = a.0
-has_status IsUpgraded s text a = a.0
-has_status IsAlready s text a = a.0
-has_status (Writes c) s text a = a.0
+has_status (Makes tool file) s text a = (a.made, a.is_made, tool_status a.made s text a.told)

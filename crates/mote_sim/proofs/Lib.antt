@@ -7,7 +7,7 @@ pub mod Gather
 pub mod Images
 pub mod Counts
 pub mod Inversion
-pub mod OneImage
+pub mod OneFile
 pub mod PlainTurns
 pub mod Prepared
 pub mod Pushed

@@ -1,6 +1,8 @@
 pub mod Fields
 pub mod Request
 pub mod Reading
+pub mod Refusal
+pub mod Tools
 pub mod Trace
 pub mod Listing
 pub mod Outcome

@@ -9,11 +9,12 @@ ghost use Rattle.domain_model.specs.Good.{AreTimes};
 ghost use Rattle.domain_model.specs.Loader.{are_for_loader, is_for_loader, loader_events};
 ghost use Rattle.event_script.specs.Refusals.{events_of, refusal_of};
 ghost use Rattle.mote_sim.specs.Asking.{AsksBy, AsksFront, Came};
-ghost use Rattle.mote_sim.specs.Clauses.{WritesRun, WritesListing, WritesUpgrade, WritesSeal, Refuses, HasStatus, WritesFront};
+ghost use Rattle.mote_sim.specs.Clauses.{WritesRun, WritesTool, RefusesFiles, HasStatus, WritesFront};
 ghost use Rattle.mote_sim.specs.Ending.{Ends, IsAnswer, Answered, CutOff};
 ghost use Rattle.mote_sim.specs.Outcome.{Answers, AnswersOver, outcome, outcome_by, outcome_of_script, outcome_with, usage_line};
 ghost use Rattle.mote_sim.specs.Playing.{AreReady, StandsAt};
 ghost use Rattle.mote_sim.specs.Reading.{Admits, AdmitsEach, bytes_of};
+ghost use Rattle.mote_sim.specs.Tools.{TellsOf};
 ghost use Rattle.mote_sim.specs.Trace.{input_of};
 ghost use Rattle.mote_sim.specs.Pieces.{LeadsBySome};
 
@@ -24,11 +25,10 @@ use crate::play::play;
 use crate::reading::{ReadStop, read_files};
 use crate::request::{Request, request_of};
 use crate::sealing::{seal, upgrade};
-use domain_model::{Event, Kind, Lines, What};
+use domain_model::{Event, Kind, Lines, Tool, What};
 use event_script::{Script, ScriptError, parse_script};
 use mote_base::{NoMemory, Shelf, Sink, Status, Word};
 use mote_core::{Limits, Mote, Ready};
-use mote_layout::{DEFAULT_HANDLER_UNITS, DEFAULT_UNITS};
 use std::alloc::Global;
 use unit_run::PlainRunner;
 
@@ -135,6 +135,18 @@ fn run<K: Sink>(
     }
 }
 
+// Makes what a tool makes of its file.
+fn make<K: Sink>(alloc: Global, tool: Tool, file: &[u8], out: &mut K) -> Status
+    ensures { Ends K.written K.faults (LeadsBySome K.leads) out.old out.new 0 0
+        (TellsOf tool file.now) result }
+{
+    match tool {
+        Tool::Listing => list(alloc, file, out),
+        Tool::Upgrade => upgrade(alloc, file, out),
+        Tool::Seal => seal(alloc, file, out),
+    }
+}
+
 // Answers a command whose files have been read.
 fn perform<K: Sink>(alloc: Global, kind: Kind, files: &[Vec<u8>], out: &mut K) -> Status
     requires operands { IsTrue (takes kind (length files.now)) }
@@ -147,16 +159,8 @@ fn perform<K: Sink>(alloc: Global, kind: Kind, files: &[Vec<u8>], out: &mut K) -
             [script, images @ ..] => run(alloc, Limits { units, handler }, script, images, out),
             [] => unreachable!(),
         },
-        Kind::Listing => match files {
-            [file] => list(alloc, file, out),
-            _ => unreachable!(),
-        },
-        Kind::Upgrade => match files {
-            [file] => upgrade(alloc, file, out),
-            _ => unreachable!(),
-        },
-        Kind::Seal => match files {
-            [file] => seal(alloc, file, out),
+        Kind::Tool(tool) => match files {
+            [file] => make(alloc, tool, file, out),
             _ => unreachable!(),
         },
     }
@@ -219,36 +223,28 @@ pub fn mote_main<F: Shelf, K: Sink>(
     // The shelf may be asked for the files of the command.
     requires { Admits (F.admits shelf.old) (command_of words.now) }
 
-    // Done: every file was read whole. Of `run` the bytes added are the trace of a lawful run of them, and of `list`
-    // they are the lines of the units of the image. Of `upgrade` and `seal` they are the file of the image asked for.
+    // Done: every file was read whole. Of `run` the bytes added are the trace of a lawful run of them within its limits,
+    // and of a tool they are what its definition makes of its file.
     ensures headline { result ≡ Status.Done →
         (units handler : ℕ) (names : List (List ℕ)) (fs : List Named) (before : List ℕ) →
         command_of words.now ≡ Some (record { kind = Kind.Run units handler; files = names }) →
         F.files shelf.old ≡ Some fs → K.written out.old ≡ Some before →
         WritesRun units handler names fs before (K.written out.new) }
-    ensures listing { result ≡ Status.Done → (names : List (List ℕ)) (fs : List Named) (before : List ℕ) →
-        command_of words.now ≡ Some (record { kind = Kind.Listing; files = names }) →
+    ensures tools { result ≡ Status.Done →
+        (tool : Tool) (names : List (List ℕ)) (fs : List Named) (before : List ℕ) →
+        command_of words.now ≡ Some (record { kind = Kind.Tool tool; files = names }) →
         F.files shelf.old ≡ Some fs → K.written out.old ≡ Some before →
-        WritesListing names fs before (K.written out.new) }
-    ensures upgrading { result ≡ Status.Done → (names : List (List ℕ)) (fs : List Named) (before : List ℕ) →
-        command_of words.now ≡ Some (record { kind = Kind.Upgrade; files = names }) →
-        F.files shelf.old ≡ Some fs → K.written out.old ≡ Some before →
-        WritesUpgrade names fs before (K.written out.new) }
-    ensures sealing { result ≡ Status.Done → (names : List (List ℕ)) (fs : List Named) (before : List ℕ) →
-        command_of words.now ≡ Some (record { kind = Kind.Seal; files = names }) →
-        F.files shelf.old ≡ Some fs → K.written out.old ≡ Some before →
-        WritesSeal names fs before (K.written out.new) }
+        WritesTool tool names fs before (K.written out.new) }
 
     // Usage: the words are no command. No command has another answer, but where the put of its line fails.
     ensures usage { result ≡ Status.Usage → (command_of words.now ≡ None)
         × Grows (K.written out.old) (K.written out.new) usage_line }
     ensures no_command { command_of words.now ≡ None → (result ≡ Status.Usage) ⊎ (result ≡ Status.WriteFault) }
 
-    // Refused: a file is longer than its limit, the script or an image is not built, the one file of the other commands
-    // is no image, `list` finds code that has no units, `upgrade` an image of the second version, or `seal` one that is
-    // rewritten or sealed already.
+    // Refused: a file is longer than its limit, the script or an image of a run is not built, or a tool refuses its file.
+    // What refuses it is the first of the tool's refusals, in the order of its definition.
     ensures refused { result ≡ Status.Refused → (fs : List Named) → F.files shelf.old ≡ Some fs →
-        Refuses (outcome (command_of words.now) fs) (K.written out.old) (K.written out.new) }
+        RefusesFiles (outcome (command_of words.now) fs) (K.written out.old) (K.written out.new) }
 
     // Where no call failed the status is the defined one, unless memory ran out.
     ensures complete { (fs : List Named) → F.files shelf.old ≡ Some fs →

@@ -2,10 +2,15 @@
 //!
 //! `mote_main` is all that the program does, over any shelf of files and any sink. With status Done the bytes
 //! that it added to the sink are, of `run`, the text of a run of the machine of domains over the script and its
-//! images, and every turn of that run is lawful; of `list` they are the lines of the units of an image; of `upgrade`
-//! and `seal` they are the file of an image. Each other status has its cause, and every status says what was written.
-//! The definitions of the answers stand in `specs/`: `Outcome`, `Trace` and `Listing` say what the answer has to be,
-//! `Reading` what the files come to, and `Ending` what each status says of the shelf and of the sink.
+//! images, and every turn of that run is lawful; of a tool, a command that takes one file, they are what its definition
+//! makes of that file: of `list` the lines of the units of an image, of `upgrade` and `seal` the file of an image. Each
+//! other status has its cause, and every status says what was written. The definitions of the answers stand in `specs/`:
+//! `Outcome` and `Trace` say what the answer has to be, `Tools` what each tool refuses, in its order, and what it makes,
+//! `Refusal` which line says why, `Reading` what the files come to, and `Ending` what each status says of the shelf and
+//! of the sink.
+//!
+//! A further tool is a variant of `Tool` with its name, one definition in `Tools` with its refusals in their order and
+//! its output, and one function that meets it.
 #![tactic(auto)]
 
 mod answer;

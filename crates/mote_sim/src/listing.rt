@@ -7,8 +7,8 @@ ghost use Rattle.mote_base.specs.Written.{Puts};
 ghost use Rattle.module_image.specs.Reading.{image_of};
 ghost use Rattle.unit_code.specs.Proper.{IsOfKind};
 ghost use Rattle.mote_sim.specs.Ending.{Ends};
-ghost use Rattle.mote_sim.specs.Outcome.{Answers, outcome_of_contents, outcome_of_image};
 ghost use Rattle.mote_sim.specs.Pieces.{LeadsBySome};
+ghost use Rattle.mote_sim.specs.Tools.{Tells, list_by, list_where};
 
 use crate::one_line::{put_answer, put_code, put_image};
 use arrayvec::ArrayVec;
@@ -47,7 +47,7 @@ fn put_units<K: Sink>(out: &mut K, units: &[Unit], places: &[u16]) -> Result<(),
 fn list_contents<K: Sink>(alloc: Global, image: &ImageView<'_>, out: &mut K) -> Status
     requires { length image.now.code ≤ 65535 }
     ensures { Ends K.written K.faults (LeadsBySome K.leads) out.old out.new 0 0
-        (Answers (outcome_of_contents image.now.rewritten image.now)) result }
+        (Tells (list_where image.now.rewritten image.now)) result }
 {
     if image.rewritten() {
         return put_answer(out, b"refused unbuilt\n", Status::Refused);
@@ -68,7 +68,7 @@ fn list_contents<K: Sink>(alloc: Global, image: &ImageView<'_>, out: &mut K) -> 
 /// Lists the units of the image that the file holds.
 pub fn list<K: Sink>(alloc: Global, file: &[u8], out: &mut K) -> Status
     ensures { Ends K.written K.faults (LeadsBySome K.leads) out.old out.new 0 0
-        (Answers (outcome_of_image (image_of file.now))) result }
+        (Tells (list_by (image_of file.now))) result }
 {
     match parse(file) {
         Ok(image) => list_contents(alloc, &image, out),

@@ -1,7 +1,8 @@
 //! Answers that are one line.
 ghost use Rattle.std.specs.Prelude.{◌≡◌, ◌⊎◌, ◌<◌, length};
 ghost use Rattle.mote_sim.specs.Ending.{Ends, IsAnswer};
-ghost use Rattle.mote_sim.specs.Outcome.{Answers, BadCode, BadImage, BadScript, TooLong};
+ghost use Rattle.mote_sim.specs.Outcome.{Answers, Refuses};
+ghost use Rattle.mote_sim.specs.Refusal.{BadCode, BadImage, BadScript, TooLong};
 ghost use Rattle.mote_sim.specs.Pieces.{LeadsBySome};
 
 use arrayvec::ArrayVec;
@@ -27,7 +28,7 @@ pub fn put_answer<K: Sink>(out: &mut K, line: &[u8], status: Status) -> Status
 
 /// Puts the line on a file that is too long.
 pub fn put_size<K: Sink>(out: &mut K, number: usize) -> Status
-    ensures { Ends K.written K.faults (LeadsBySome K.leads) out.old out.new 0 0 (Answers (TooLong number)) result }
+    ensures { Ends K.written K.faults (LeadsBySome K.leads) out.old out.new 0 0 (Answers (Refuses (TooLong number))) result }
 {
     let mut line: Line = ArrayVec::new();
     add_text(&mut line, b"refused size");
@@ -39,7 +40,7 @@ pub fn put_size<K: Sink>(out: &mut K, number: usize) -> Status
 /// Puts the line on a file that is no script.
 pub fn put_script<K: Sink>(out: &mut K, refusal: &ScriptError) -> Status
     ensures { Ends K.written K.faults (LeadsBySome K.leads) out.old out.new 0 0
-        (Answers (BadScript refusal.now)) result }
+        (Answers (Refuses (BadScript refusal.now))) result }
 {
     let mut line: Line = ArrayVec::new();
     add_text(&mut line, b"refused script");
@@ -52,7 +53,7 @@ pub fn put_script<K: Sink>(out: &mut K, refusal: &ScriptError) -> Status
 /// Puts the line on a file that is no image.
 pub fn put_image<K: Sink>(out: &mut K, refusal: &ImageError) -> Status
     ensures { Ends K.written K.faults (LeadsBySome K.leads) out.old out.new 0 0
-        (Answers (BadImage refusal.now)) result }
+        (Answers (Refuses (BadImage refusal.now))) result }
 {
     let mut line: Line = ArrayVec::new();
     add_text(&mut line, b"refused image");
@@ -64,7 +65,7 @@ pub fn put_image<K: Sink>(out: &mut K, refusal: &ImageError) -> Status
 
 /// Puts the line on code that has no units.
 pub fn put_code<K: Sink>(out: &mut K, refusal: &CodeError) -> Status
-    ensures { Ends K.written K.faults (LeadsBySome K.leads) out.old out.new 0 0 (Answers (BadCode refusal.now)) result }
+    ensures { Ends K.written K.faults (LeadsBySome K.leads) out.old out.new 0 0 (Answers (Refuses (BadCode refusal.now))) result }
 {
     let mut line: Line = ArrayVec::new();
     add_text(&mut line, b"refused code");

@@ -5,7 +5,7 @@ ghost use Rattle.mote_sim.specs.Request.{command_parts, asked, HasItsOperands, H
 
 use crate::given::Given;
 use crate::operands::Operands;
-use domain_model::Kind;
+use domain_model::{Kind, Tool};
 use mote_base::Word;
 use mote_layout::{DEFAULT_HANDLER_UNITS, DEFAULT_UNITS, IMAGE_BYTES, IMAGES, SCRIPT_BYTES};
 
@@ -18,16 +18,16 @@ pub enum Request<'a> {
     Command(Kind, Operands<'a>),
 }
 
-// The command of that name which takes no options.
-fn tool_of(verb: &Word) -> Option<Kind>
+// The tool of that name.
+fn tool_of(verb: &Word) -> Option<Tool>
     ensures { result ≡ tool_of verb.now }
 {
     if verb.text() == "list" {
-        Some(Kind::Listing)
+        Some(Tool::Listing)
     } else if verb.text() == "upgrade" {
-        Some(Kind::Upgrade)
+        Some(Tool::Upgrade)
     } else if verb.text() == "seal" {
-        Some(Kind::Seal)
+        Some(Tool::Seal)
     } else {
         None
     }
@@ -44,18 +44,18 @@ fn kind_of(verb: &Word, units: Option<u64>, handler: Option<u64>) -> Option<Kind
         });
     }
     match (units, handler) {
-        (None, None) => tool_of(verb),
+        (None, None) => Some(Kind::Tool(tool_of(verb)?)),
         _ => None,
     }
 }
 
-/// Whether a command takes so many files: `run` a script and 1 to 64 images, and each other command an image.
+// Whether a command takes so many files: `run` a script and 1 to 64 images, and a tool one file.
 fn takes(kind: Kind, count: usize) -> bool
     ensures { result ≡ takes kind count }
 {
     match kind {
         Kind::Run { .. } => (2..=1 + IMAGES).contains(&count),
-        Kind::Listing | Kind::Upgrade | Kind::Seal => count == 1,
+        Kind::Tool(_) => count == 1,
     }
 }
 
@@ -71,7 +71,7 @@ pub fn limit_of(kind: Kind, number: usize) -> usize
                 IMAGE_BYTES
             }
         }
-        Kind::Listing | Kind::Upgrade | Kind::Seal => IMAGE_BYTES,
+        Kind::Tool(_) => IMAGE_BYTES,
     }
 }
 

@@ -4,8 +4,8 @@ ghost use Rattle.module_image.specs.Contents.{constants_limit, first_version};
 ghost use Rattle.module_image.specs.Reading.{image_of};
 ghost use Rattle.module_image.specs.Spelling.{Image, flags};
 ghost use Rattle.mote_sim.specs.Ending.{Ends};
-ghost use Rattle.mote_sim.specs.Outcome.{Answers, in_second, outcome_of_original, outcome_of_first, outcome_of_sealing, outcome_of_upgrading};
 ghost use Rattle.mote_sim.specs.Pieces.{LeadsBySome};
+ghost use Rattle.mote_sim.specs.Tools.{Tells, in_second, seal_by, seal_where, upgrade_by, upgrade_where};
 
 use crate::one_line::{put_answer, put_image};
 use module_image::{FIRST_VERSION, ImageView, parse, write_image2};
@@ -62,7 +62,7 @@ fn write_second(
 // Writes an image that was read in the second version. All memory is taken before the one put.
 fn upgrade_image<K: Sink>(alloc: Global, image: &ImageView<'_>, out: &mut K) -> Status
     ensures { Ends K.written K.faults (LeadsBySome K.leads) out.old out.new 0 0
-        (Answers (outcome_of_first (image.now.version == first_version) image.now)) result }
+        (Tells (upgrade_where (image.now.version == first_version) image.now)) result }
 {
     if image.version() != FIRST_VERSION {
         return put_answer(out, b"refused upgraded\n", Status::Refused);
@@ -76,7 +76,7 @@ fn upgrade_image<K: Sink>(alloc: Global, image: &ImageView<'_>, out: &mut K) -> 
 /// Writes the image that the file holds in the second version. It doesn't look at the code.
 pub fn upgrade<K: Sink>(alloc: Global, file: &[u8], out: &mut K) -> Status
     ensures { Ends K.written K.faults (LeadsBySome K.leads) out.old out.new 0 0
-        (Answers (outcome_of_upgrading (image_of file.now))) result }
+        (Tells (upgrade_by (image_of file.now))) result }
 {
     match parse(file) {
         Ok(image) => upgrade_image(alloc, &image, out),
@@ -88,7 +88,7 @@ pub fn upgrade<K: Sink>(alloc: Global, file: &[u8], out: &mut K) -> Status
 fn seal_image<K: Sink>(alloc: Global, image: &ImageView<'_>, out: &mut K) -> Status
     requires { length image.now.constants ≤ constants_limit }
     ensures { Ends K.written K.faults (LeadsBySome K.leads) out.old out.new 0 0
-        (Answers (outcome_of_original (image.now.rewritten || image.now.sealed) image.now)) result }
+        (Tells (seal_where (image.now.rewritten || image.now.sealed) image.now)) result }
 {
     if image.rewritten() || image.sealed() {
         return put_answer(out, b"refused already\n", Status::Refused);
@@ -102,7 +102,7 @@ fn seal_image<K: Sink>(alloc: Global, image: &ImageView<'_>, out: &mut K) -> Sta
 /// Writes the image that the file holds with the seal. It doesn't look at the code.
 pub fn seal<K: Sink>(alloc: Global, file: &[u8], out: &mut K) -> Status
     ensures { Ends K.written K.faults (LeadsBySome K.leads) out.old out.new 0 0
-        (Answers (outcome_of_sealing (image_of file.now))) result }
+        (Tells (seal_by (image_of file.now))) result }
 {
     match parse(file) {
         Ok(image) => seal_image(alloc, &image, out),

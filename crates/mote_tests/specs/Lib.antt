@@ -1,0 +1,2 @@
+pub mod Scribble
+pub mod ScribbleLaw

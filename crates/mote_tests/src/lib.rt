@@ -1,12 +1,19 @@
 //! Tests of the public calls of the machine of domains, the mote and the program.
 //!
 //! - `rows`: runs and listings of `mote_sim`'s top call, with their faults and limits.
+//! - `words`: which words of the command line are a command, and its options.
 //! - `images`: images that the top call writes by `upgrade` and `seal`.
-//! - `turns`: turns of a mote of `mote_core` under small limits.
+//! - `turns`: turns of a mote of `mote_core` under small limits, by two runners.
+//! - `units`: runs of modules with units and kernel calls of each kind, by the top call and by both runners.
+//! - `scribble`: a second runner, which leaves other values in every byte that a unit leaves open.
 //! - `scripts`: the events of a script of `event_script`, and what refuses it.
 //! - `traces`: the text of each line of a trace of `trace_text`.
 //! - `lines`: the lines that `domain_model` keeps of a turn.
 #![tactic(auto)]
+
+mod scribble;
+
+pub use scribble::ScribbleRunner;
 
 #[cfg(test)]
 mod images;
@@ -20,3 +27,7 @@ mod scripts;
 mod traces;
 #[cfg(test)]
 mod turns;
+#[cfg(test)]
+mod units;
+#[cfg(test)]
+mod words;

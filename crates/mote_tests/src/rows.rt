@@ -9,8 +9,8 @@ use std::test::Fail;
 /// Module 1 says byte 65: E481 940E F108 9508.
 pub(crate) const SAYS: &[u8] = b"SOSM\x01\x01\0\0\0\0\0\0\0\x04\0\x81\xE4\x0E\x94\x08\xF1\x08\x95";
 
-/// Module 1 does nothing first, by an instruction that is not built: 0000 9508.
-const UNBUILT: &[u8] = b"SOSM\x01\x01\0\0\0\0\0\0\0\x02\0\0\0\x08\x95";
+/// Module 1 calls itself, by a unit that is not built: DFFF 9508.
+const UNBUILT: &[u8] = b"SOSM\x01\x01\0\0\0\0\0\0\0\x02\0\xFF\xDF\x08\x95";
 
 /// The image of the module that says 65, without its last byte.
 const SAYS_CUT: &[u8] = b"SOSM\x01\x01\0\0\0\0\0\0\0\x04\0\x81\xE4\x0E\x94\x08\xF1\x08";
@@ -104,9 +104,9 @@ const SEALED: &[u8] = b"SOSM\x02\x01\x02\0\0\0\0\0\0\x03\0\0\0\x80\x91\0\x03\x08
 /// The same module without the seal.
 const UNSEALED: &[u8] = b"SOSM\x02\x01\0\0\0\0\0\0\0\x03\0\0\0\x80\x91\0\x03\x08\x95";
 
-const SAID: &str = "0 load 1 0 0000\n0 run 1 0 0\n1 say 1 65\n2 done 1\n3 end idle\n";
+pub(crate) const SAID: &str = "0 load 1 0 0000\n0 run 1 0 0\n1 say 1 65\n2 done 1\n3 end idle\n";
 
-const LISTED: &str = "0 0000 ldi r24,65\n1 0001 kcall 8\n2 0003 ret\n";
+pub(crate) const LISTED: &str = "0 0000 ldi r24,65\n1 0001 kcall 8\n2 0003 ret\n";
 
 const SIXTEEN_LOADS: &str =
     "0 load 0\n0 load 1\n0 load 2\n0 load 3\n0 load 4\n0 load 5\n0 load 6\n0 load 7\n\
@@ -205,27 +205,6 @@ const RUNS: &[Row] = &[
         images: &[SAYS],
         status: Status::Done,
         text: "0 end idle\n",
-    },
-    Row {
-        words: "run",
-        script: LOAD,
-        images: &[SAYS],
-        status: Status::Usage,
-        text: "mote: usage\n",
-    },
-    Row {
-        words: "run s",
-        script: LOAD,
-        images: &[SAYS],
-        status: Status::Usage,
-        text: "mote: usage\n",
-    },
-    Row {
-        words: "run -s a",
-        script: LOAD,
-        images: &[SAYS],
-        status: Status::Usage,
-        text: "mote: usage\n",
     },
     Row {
         words: "run s a",
@@ -464,7 +443,7 @@ const LISTINGS: &[Row] = &[
         script: "",
         images: &[UNBUILT],
         status: Status::Done,
-        text: "0 0000 nop\n1 0001 ret\n",
+        text: "0 0000 rcall .0\n1 0001 ret\n",
     },
     Row {
         words: "list a",
@@ -503,20 +482,6 @@ const LISTINGS: &[Row] = &[
     },
     Row {
         words: "list",
-        script: "",
-        images: &[SAYS],
-        status: Status::Usage,
-        text: "mote: usage\n",
-    },
-    Row {
-        words: "list a b",
-        script: "",
-        images: &[SAYS, SKIPS],
-        status: Status::Usage,
-        text: "mote: usage\n",
-    },
-    Row {
-        words: "list -x",
         script: "",
         images: &[SAYS],
         status: Status::Usage,

@@ -1,5 +1,5 @@
 -- The addresses of entries are those of the page.
-use Rattle.std.proofs.Common.{◌≡◌, refl}
+use Rattle.std.proofs.Common.{refl}
 use Rattle.mote_layout.specs.Page.{StandsAt}
 use Rattle.mote_layout.specs.declared.page.Entry.{Entry}
 use Rattle.mote_layout.specs.declared.page.Entry.TheVariants.{StoreY, StoreZ, LoadY, LoadZ, Kernel, Slot}

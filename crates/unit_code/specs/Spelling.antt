@@ -6,7 +6,7 @@ use Rattle.avr_isa.specs.declared.instruction.Instr.{Instr}
 use Rattle.unit_code.specs.declared.form.Form.{Form}
 use Rattle.unit_code.specs.declared.form.Form.TheVariants.{Whole, ShortSkip, LongSkip, ShortBranch, LongBranch, Jumping, Calling}
 use Rattle.unit_code.specs.declared.unit.Unit.{Unit}
-use Rattle.unit_code.specs.declared.unit.Unit.TheVariants.{Plain, Store, Load, Push, Pop, SpGroup, Reserve, Skip, Branch, Jump, LocalCall, KernelCall, SlotCall, SlotIndirect, Return}
+use Rattle.unit_code.specs.declared.unit.Unit.TheVariants.{Plain, Reserve, Skip, Branch, Jump, LocalCall, KernelCall, SlotCall, SlotIndirect, Return}
 use Rattle.unit_code.specs.declared.unit.Shape.{Shape}
 use Rattle.unit_code.specs.declared.unit.Shape.TheVariants.{Long, Short}
 use Rattle.unit_code.specs.Beside.{AreWordsOf, StandBy}

@@ -91,8 +91,8 @@ impl PlainRunner {
         bank.fill(units);
     }
 
-    /// The unit that runs next.
-    pub(crate) fn next_unit(&self, run: &Running) -> Option<Unit>
+    /// The unit that runs next, where that domain runs.
+    pub fn next_unit(&self, run: &Running) -> Option<Unit>
         ensures { result ≡ next_unit self.now run.now }
     {
         match self.banks.get(usize::from(run.domain)) {

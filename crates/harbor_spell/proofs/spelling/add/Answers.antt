@@ -1,4 +1,4 @@
-use Rattle.std.proofs.Common.{◌≡◌, ◌∙◌, ◌+◌, ◌<◌, ◌≤◌, ◌++◌, [], ◌∷◌, ℕ, List, Option, Some, None, Ok, length, length-append, append_assoc, ap, subst, sym, arith, lit<, rules}
+use Rattle.std.proofs.Common.{◌≡◌, ◌∙◌, ◌++◌, [], ◌∷◌, Some, None, Ok, length, length-append, append_assoc, ap, sym, arith, lit<}
 use Rattle.avr_isa.specs.Decoded.{decoded}
 use Rattle.avr_isa.specs.Table.{word_count}
 use Rattle.unit_code.specs.Lengths.{instruction_length}

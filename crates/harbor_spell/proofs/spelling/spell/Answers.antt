@@ -1,8 +1,7 @@
-use Rattle.std.proofs.Common.{◌≡◌, ◌∙◌, ◌+◌, ◌<◌, ◌≤◌, ◌++◌, [], ◌∷◌, ℕ, List, length, take, get_or, ap, subst, sym, arith, add-zero}
+use Rattle.std.proofs.Common.{◌≡◌, ◌+◌, ◌<◌, ◌++◌, [], ◌∷◌, List, length, take, get_or, ap, subst, sym, arith}
 use Rattle.std.proofs.lemmas.List.{take_more}
 use Rattle.avr_isa.specs.declared.instruction.Instr.{Instr}
 use Rattle.avr_isa.specs.declared.instruction.Instr.TheVariants.{Nop}
-use Rattle.unit_code.specs.Lengths.{instruction_length}
 use Rattle.unit_code.specs.Beside.{AreWordsOf, words_in}
 use Rattle.harbor_spell.proofs.Added.{words_more, words_taken}
 use Rattle.harbor_spell.proofs.spelling.spell.Goals as goal

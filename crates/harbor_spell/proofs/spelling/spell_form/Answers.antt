@@ -1,6 +1,6 @@
-use Rattle.std.proofs.Common.{◌≡◌, ℤ, subst, sym}
+use Rattle.std.proofs.Common.{ℤ, subst, sym}
 use Rattle.std.specs.List.{AllByRecursion}
-use Rattle.avr_isa.specs.Operands.{IsBranchOffset, IsEncodable}
+use Rattle.avr_isa.specs.Operands.{IsEncodable}
 use Rattle.unit_code.specs.declared.form.Form.{Form}
 use Rattle.unit_code.specs.declared.form.Form.TheVariants.{LongSkip}
 use Rattle.unit_code.specs.Templates.{template}

@@ -1,4 +1,4 @@
-use Rattle.std.proofs.Common.{◌≡◌, ◌∙◌, ℕ, zero, ◌+◌, ◌<◌, ◌≤◌, List, Some, length, get_or, slice_get, ap, subst, sym, arith}
+use Rattle.std.proofs.Common.{◌≡◌, get_or, ap, subst, sym, arith}
 use Rattle.std.specs.List.{AllByRecursion}
 use Rattle.std.proofs.lemmas.Option.{get_or_from_slice_get, slice_get-get_or}
 use Rattle.avr_isa.specs.Operands.{IsEncodable}
@@ -10,7 +10,7 @@ use Rattle.unit_code.specs.declared.unit.Unit.{Unit}
 use Rattle.unit_code.specs.declared.unit.Unit.TheVariants.{Plain}
 use Rattle.unit_code.specs.Beside.{AreWordsOf, form_words}
 use Rattle.unit_code.specs.Proper.{IsOfKind}
-use Rattle.unit_code.specs.Spelling.{AreShapesOf, form_of, start_of, starts_of}
+use Rattle.unit_code.specs.Spelling.{form_of, start_of, starts_of}
 use Rattle.unit_code.specs.Templates.{IsForm, template}
 use Rattle.harbor_spell.proofs.Encodes.{form_kind, templates_encode}
 use Rattle.harbor_spell.proofs.Lengths.{form_length}
@@ -28,8 +28,8 @@ form_of-form-requires c =
     let ss = c.args.shapes.now in
     let count = same_count (starts_of us ss) 0 us ss c.requires.shapes in
     placed us ss c.args.starts.now c.requires.proper.0 c.args.i (get_or us c.args.i (Plain Nop)) (get_or ss c.args.i Long) c.requires.proper.1 c.requires.shapes
-        c.requires.starts c.requires.inside (slice_get-get_or us c.args.i (Plain Nop) c.requires.inside)
-        (slice_get-get_or ss c.args.i Long (omega (arith, count, c.requires.inside)))
+    c.requires.starts c.requires.inside (slice_get-get_or us c.args.i (Plain Nop) c.requires.inside)
+    (slice_get-get_or ss c.args.i Long (omega (arith, count, c.requires.inside)))
 
 pub spell_form-requires-clause-kind : goal.spell_form-requires-clause-kind
 spell_form-requires-clause-kind c =
@@ -52,7 +52,7 @@ spell_form-requires-clause-encodable c =
     let stands = placed us ss c.args.starts.now c.requires.proper.0 i u s c.requires.proper.1 c.requires.shapes c.requires.starts c.requires.inside at by in
     let P : Form → Type 0 = λ f. AllByRecursion IsEncodable (template f) in
     subst P (sym c.form_of-form.ensures)
-        (templates_encode c.args.starts.now i u s kind stands (may_have us ss c.args.starts.now i u s c.requires.shapes c.requires.starts at by))
+    (templates_encode c.args.starts.now i u s kind stands (may_have us ss c.args.starts.now i u s c.requires.shapes c.requires.starts at by))
 
 pub spell_form-requires-clause-room : goal.spell_form-requires-clause-room
 spell_form-requires-clause-room c =

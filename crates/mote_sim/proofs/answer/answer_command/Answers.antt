@@ -1,5 +1,6 @@
 use Rattle.std.proofs.Common.{refl}
-use Rattle.mote_sim.specs.Outcome.{TooLong, outcome_by}
+use Rattle.mote_sim.specs.Outcome.{Refuses, outcome_by}
+use Rattle.mote_sim.specs.Refusal.{TooLong}
 use Rattle.mote_sim.specs.Reading.{Whole, Longer, bytes_of}
 use Rattle.mote_sim.proofs.Calls.{asks_by}
 use Rattle.mote_sim.proofs.Ends.{ends_map}
@@ -20,7 +21,7 @@ returns-in-Err-TooLong-clause-ends g c =
     let asks = rw c.in-Err-TooLong.field-0-is at c.in-Err-TooLong.ensures.asks in
     ends_map _ _ _ _ _ _ _ _ _
     (λ s t a. record {
-      found = TooLong c.in-Err-TooLong.number;
+      found = Refuses (TooLong c.in-Err-TooLong.number);
       may = record { bytes = Longer c.in-Err-TooLong.number; read = asks; is = refl; told = stops.is };
       answer = (a.0, cc);
     }) stops.kept c.put_size.result c.put_size.ensures

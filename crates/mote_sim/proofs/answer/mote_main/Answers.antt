@@ -1,21 +1,15 @@
 use Rattle.std.proofs.Common.{subst}
 use Rattle.domain_model.specs.Command.{command_of}
 use Rattle.mote_sim.specs.Asking.{AsksBy}
-use Rattle.mote_sim.proofs.Clauses.{headline, listing, upgrading, sealing, usage, refused, complete, answered, front, cut}
+use Rattle.mote_sim.proofs.Clauses.{headline, tools, usage, refused, complete, answered, front, cut}
 use Rattle.mote_sim.proofs.Counts.{has_its_files}
 use Rattle.mote_sim.proofs.answer.mote_main.Goals as goal
 
 pub returns-clause-headline : goal.returns-clause-headline
 returns-clause-headline g c = headline _ _ _ _ _ _ _ _ _ _ _ (has_its_files c.args.words.now) c.answer.ensures.ends
 
-pub returns-clause-listing : goal.returns-clause-listing
-returns-clause-listing g c = listing _ _ _ _ _ _ _ _ _ _ _ (has_its_files c.args.words.now) c.answer.ensures.ends
-
-pub returns-clause-upgrading : goal.returns-clause-upgrading
-returns-clause-upgrading g c = upgrading _ _ _ _ _ _ _ _ _ _ _ (has_its_files c.args.words.now) c.answer.ensures.ends
-
-pub returns-clause-sealing : goal.returns-clause-sealing
-returns-clause-sealing g c = sealing _ _ _ _ _ _ _ _ _ _ _ (has_its_files c.args.words.now) c.answer.ensures.ends
+pub returns-clause-tools : goal.returns-clause-tools
+returns-clause-tools g c = tools _ _ _ _ _ _ _ _ _ _ _ (has_its_files c.args.words.now) c.answer.ensures.ends
 
 pub returns-clause-usage : goal.returns-clause-usage
 returns-clause-usage g c = usage _ _ _ _ _ _ _ _ _ _ _ c.answer.ensures.ends

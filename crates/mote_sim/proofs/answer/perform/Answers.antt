@@ -4,7 +4,7 @@ use Rattle.std.proofs.Math.ListN.{length-map}
 use Rattle.std.proofs.lemmas.List.{take_all}
 use Rattle.mote_base.specs.declared.fault.Status.{Status}
 use Rattle.event_script.specs.Refusals.{refusal_of, events_of}
-use Rattle.domain_model.specs.declared.request.Kind.TheVariants.{Run, Listing}
+use Rattle.domain_model.specs.declared.request.Kind.TheVariants as kinds
 use Rattle.mote_sim.specs.Outcome.{Answers, outcome_by, outcome_of_script}
 use Rattle.mote_sim.specs.Reading.{bytes_of}
 use Rattle.mote_sim.proofs.Ends.{ends_as}
@@ -24,8 +24,8 @@ pub returns-in-len1 : goal.returns-in-len1
 returns-in-len1 g c =
     let files : c.file-item.result ∷ [] ≡ c.args.files.now = first_alone c.args.files.now c.file-item.result c.in-len1.len_at_least c.in-len1.len_below c.file-item.is in
     ends_as _ _ _ _ _ _ (Answers (outcome_by c.args.kind (bytes_of c.args.files.now)))
-    (λ s t a. subst (λ kind. Answers (outcome_by kind (bytes_of c.args.files.now)) s t) (sym c.in-Listing.is)
-    (subst (λ xs. Answers (outcome_by Listing (bytes_of xs)) s t) files (rw (← c.deref-in-len1.ensures.value) a))) c.list.result c.list.ensures
+    (λ s t a. subst (λ kind. Answers (outcome_by kind (bytes_of c.args.files.now)) s t) (sym c.in-Tool.is)
+    (subst (λ xs. Answers (outcome_by (kinds.Tool c.in-Tool.tool) (bytes_of xs)) s t) files (rw (← c.deref-in-len1.ensures.value) a))) c.make.result c.make.ensures
 
 counted : (units handler : ℕ) (script : List ℕ) (images : List (Vec ℕ Global)) (s : Status) (t : List ℕ) → Answers (outcome_of_script units handler (refusal_of (length images) script) (events_of script) (bytes_of images)) s t → Answers (outcome_of_script units handler (refusal_of (length (bytes_of images)) script) (events_of script) (bytes_of images)) s t
 counted units handler script images s t a =
@@ -36,4 +36,4 @@ returns-in-len1-up g c =
     let files : c.script-item.result ∷ take (length c.args.files.now - 1) (drop 1 c.args.files.now) ≡ c.args.files.now = first_and_others c.args.files.now c.script-item.result c.in-len1-up.len_at_least c.script-item.is in
     ends_as _ _ _ _ _ _ (Answers (outcome_by c.args.kind (bytes_of c.args.files.now)))
     (λ s t a. subst (λ kind. Answers (outcome_by kind (bytes_of c.args.files.now)) s t) (sym c.in-Run.is)
-    (subst (λ xs. Answers (outcome_by (Run c.in-Run.units c.in-Run.handler) (bytes_of xs)) s t) files (rw (← c.deref.ensures.value) (counted c.in-Run.units c.in-Run.handler c.deref.result.now (take (length c.args.files.now - 1) (drop 1 c.args.files.now)) s t a)))) c.run.result c.run.ensures
+    (subst (λ xs. Answers (outcome_by (kinds.Run c.in-Run.units c.in-Run.handler) (bytes_of xs)) s t) files (rw (← c.deref.ensures.value) (counted c.in-Run.units c.in-Run.handler c.deref.result.now (take (length c.args.files.now - 1) (drop 1 c.args.files.now)) s t a)))) c.run.result c.run.ensures

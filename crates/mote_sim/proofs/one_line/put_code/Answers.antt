@@ -1,6 +1,6 @@
 use Rattle.std.proofs.Common.{◌≡◌, ◌∙◌, arith}
 use Rattle.std.proofs.lemmas.Grind.{common_steps}
-use Rattle.mote_sim.specs.Outcome.{code_line}
+use Rattle.mote_sim.specs.Refusal.{code_line}
 use Rattle.mote_sim.proofs.Ends.{ends_as}
 use Rattle.mote_sim.proofs.one_line.put_code.Goals as goal
 

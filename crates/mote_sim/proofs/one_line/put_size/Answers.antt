@@ -1,6 +1,6 @@
 use Rattle.std.proofs.Common.{◌≡◌, ◌∙◌, arith}
 use Rattle.std.proofs.lemmas.Grind.{common_steps}
-use Rattle.mote_sim.specs.Outcome.{size_line}
+use Rattle.mote_sim.specs.Refusal.{size_line}
 use Rattle.mote_sim.proofs.Ends.{ends_as}
 use Rattle.mote_sim.proofs.one_line.put_size.Goals as goal
 

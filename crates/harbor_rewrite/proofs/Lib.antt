@@ -1,0 +1,4 @@
+pub mod Emission
+pub mod Joining
+pub mod Entries
+pub mod Images

@@ -1,0 +1,17 @@
+pub mod Accepted
+pub mod Chain
+pub mod Conditions
+pub mod Converse
+pub mod FirstLaw
+pub mod FormLengths
+pub mod NoRefusal
+pub mod NthForm
+pub mod ReadWords
+pub mod Readings
+pub mod Resolved
+pub mod Scanned
+pub mod Settled
+pub mod Straight
+pub mod Strayed
+pub mod UnitEnds
+pub mod Walked

@@ -1,0 +1,115 @@
+//! Rewritten images, worked out by hand from the templates.
+
+use harbor_rewrite::{RewriteError, rewrite};
+use module_image::parse;
+use std::alloc::{AllocError, Global};
+use std::process::Abort;
+use std::test::Fail;
+use unit_code::CodeError;
+
+/// The fields before the code, the code, and the bytes behind it.
+fn file_of(
+    alloc: Global,
+    fields: &[u8],
+    code: &[u16],
+    constants: &[u8],
+) -> Result<Vec<u8>, AllocError> {
+    let mut file = Vec::new(alloc);
+    file.extend_from_slice(fields)?;
+    for word in code {
+        file.extend_from_slice(&word.to_le_bytes())?;
+    }
+    file.extend_from_slice(constants)?;
+    Ok(file)
+}
+
+/// The file of the rewritten image.
+fn rewritten(alloc: Global, file: &[u8]) -> Option<Vec<u8>> {
+    let image = parse(file).ok()?;
+    rewrite(alloc, &image).ok()
+}
+
+fn refusal(alloc: Global, file: &[u8]) -> Option<RewriteError> {
+    let image = parse(file).ok()?;
+    rewrite(alloc, &image).err()
+}
+
+/// The image, its file and that of the rewritten one.
+fn check(rt: &impl Abort, alloc: Global, file: &[u8], expected: &[u8]) -> Result<(), Fail> {
+    let found = rewritten(alloc, file).expect(rt, "the image is rewritten");
+    assert_eq!(rt; found.as_slice(), expected);
+    assert_eq!(rt; refusal(alloc, expected), Some(RewriteError::Already));
+    Ok(())
+}
+
+#[test]
+fn a_guarded_store(rt: HostRuntime) -> Result<(), Fail> {
+    let file = *b"SOSM\x01\x02\x00\x00\x00\x00\x00\x00\x00\x02\x00\x0C\x93\x08\x95";
+    let fields = *b"SOSM\x01\x02\x01\x00\x00\x00\x00\x00\x00\x05\x00";
+    let words = [0x940E, 0xF000, 0x930C, 0x940C, 0xF096];
+    let expected = file_of(rt.alloc(), &fields, &words, &[])?;
+    check(&rt, rt.alloc(), &file, &expected)
+}
+
+#[test]
+fn a_skip_over_a_guarded_store(rt: HostRuntime) -> Result<(), Fail> {
+    let fields = *b"SOSM\x01\x02\x00\x00\x00\x00\x00\x00\x00\x03\x00";
+    let file = file_of(rt.alloc(), &fields, &[0xFF00, 0x931C, 0x9508], &[])?;
+    let fields = *b"SOSM\x01\x02\x01\x00\x00\x00\x00\x00\x00\x08\x00";
+    let words = [
+        0xFF00, 0xC001, 0xC003, 0x940E, 0xF000, 0x931C, 0x940C, 0xF096,
+    ];
+    let expected = file_of(rt.alloc(), &fields, &words, &[])?;
+    check(&rt, rt.alloc(), &file, &expected)
+}
+
+#[test]
+fn a_branch_back(rt: HostRuntime) -> Result<(), Fail> {
+    let fields = *b"SOSM\x01\x01\x00\x00\x00\x00\x00\x00\x00\x04\x00";
+    let file = file_of(rt.alloc(), &fields, &[0xE00A, 0x950A, 0xF7F1, 0x9508], &[])?;
+    let fields = *b"SOSM\x01\x01\x01\x00\x00\x00\x00\x00\x00\x05\x00";
+    let words = [0xE00A, 0x950A, 0xF7F1, 0x940C, 0xF096];
+    let expected = file_of(rt.alloc(), &fields, &words, &[])?;
+    check(&rt, rt.alloc(), &file, &expected)
+}
+
+#[test]
+fn a_branch_ahead(rt: HostRuntime) -> Result<(), Fail> {
+    let fields = *b"SOSM\x01\x01\x00\x00\x00\x00\x00\x00\x00\x04\x00";
+    let file = file_of(rt.alloc(), &fields, &[0x3020, 0xF009, 0x9508, 0x9508], &[])?;
+    let fields = *b"SOSM\x01\x01\x01\x00\x00\x00\x00\x00\x00\x06\x00";
+    let words = [0x3020, 0xF011, 0x940C, 0xF096, 0x940C, 0xF096];
+    let expected = file_of(rt.alloc(), &fields, &words, &[])?;
+    check(&rt, rt.alloc(), &file, &expected)
+}
+
+#[test]
+fn a_guarded_load(rt: HostRuntime) -> Result<(), Fail> {
+    let fields = *b"SOSM\x02\x01\x02\x00\x00\x00\x00\x00\x00\x02\x00\x00\x00";
+    let file = file_of(rt.alloc(), &fields, &[0x918C, 0x9508], &[])?;
+    let fields = *b"SOSM\x02\x01\x03\x00\x00\x00\x00\x00\x00\x05\x00\x00\x00";
+    let words = [0x940E, 0xF381, 0x918C, 0x940C, 0xF096];
+    let expected = file_of(rt.alloc(), &fields, &words, &[])?;
+    check(&rt, rt.alloc(), &file, &expected)
+}
+
+#[test]
+fn entries_and_constants(rt: HostRuntime) -> Result<(), Fail> {
+    // The handler is the unit behind the store, the provided function the one behind that.
+    let fields = *b"SOSM\x02\x07\x00\x08\x00\x01\x00\x01\x00\x03\x00\x03\x00\x04!abc\x02\x00";
+    let file = file_of(rt.alloc(), &fields, &[0x930C, 0x950A, 0x9508], b"ABC")?;
+    let fields = *b"SOSM\x02\x07\x01\x08\x00\x03\x00\x01\x00\x06\x00\x03\x00\x04!abc\x04\x00";
+    let words = [0x940E, 0xF000, 0x930C, 0x950A, 0x940C, 0xF096];
+    let expected = file_of(rt.alloc(), &fields, &words, b"ABC")?;
+    check(&rt, rt.alloc(), &file, &expected)
+}
+
+#[test]
+fn code_without_units(rt: HostRuntime) {
+    let file = *b"SOSM\x01\x01\x00\x00\x00\x00\x00\x00\x00\x02\x00\x09\x94\x08\x95";
+    let refused = RewriteError::Code(CodeError::Refused(0, 1));
+    assert_eq!(rt; refusal(rt.alloc(), &file), Some(refused));
+    let file = *b"SOSM\x01\x01\x00\x00\x00\x01\x00\x00\x00\x01\x00\x08\x95";
+    let refused = RewriteError::Code(CodeError::Entry(1));
+    assert_eq!(rt; refusal(rt.alloc(), &file), Some(refused));
+}

@@ -1,0 +1,5 @@
+pub mod Accepted
+pub mod Bundle
+pub mod Modules
+pub mod Numbers
+pub mod Packets

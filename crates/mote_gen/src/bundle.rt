@@ -1,0 +1,39 @@
+//! What a seed makes.
+ghost use Rattle.std.specs.Prelude.{◌≡◌, IfOk};
+ghost use Rattle.mote_gen.specs.Bundle.{files_of, images_of};
+ghost use Rattle.mote_gen.specs.Numbers.{numbers_of};
+ghost use Rattle.mote_gen.specs.Packets.{events_of};
+
+use crate::modules::modules;
+use crate::numbers::Numbers;
+use crate::packets::{PACKETS, loads, packet};
+use event_script::Script;
+use mote_base::NoMemory;
+use std::alloc::Global;
+
+/// What a run is given: the files of seven images, and the events that load them and bring the packets.
+#[derive(Drop)]
+pub struct Bundle {
+    pub images: Vec<Vec<u8>>,
+    pub script: Script,
+}
+
+/// The bundle of a seed.
+pub fn make(alloc: Global, seed: u32) -> Result<Bundle, NoMemory>
+    ensures images { IfOk result (λ bundle. files_of bundle.images.items ≡ images_of (numbers_of seed)) }
+    ensures events { IfOk result (λ bundle. bundle.script.events.items ≡ events_of (numbers_of seed)) }
+{
+    let mut numbers = Numbers { last: seed };
+    let images = modules(alloc, &mut numbers)?;
+    let mut events = loads(alloc)?;
+    let mut time = 0;
+    for place in 0..PACKETS {
+        let event = packet(time, &mut numbers);
+        time = event.time;
+        events.push(event)?;
+    }
+    Ok(Bundle {
+        images,
+        script: Script { events },
+    })
+}

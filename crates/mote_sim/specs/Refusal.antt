@@ -1,0 +1,56 @@
+-- Why a command refuses its files, and the line that says so.
+use Rattle.std.specs.Prelude.{ℕ, List, ◌++◌, codes, unwrap_or}
+use Rattle.module_image.specs.declared.error.ImageError.{ImageError}
+use Rattle.module_image.specs.Refusal.{number_of, value_of}
+use Rattle.unit_code.specs.declared.error.CodeError.{CodeError}
+use Rattle.unit_code.specs.Errors.{error_number, error_word, error_kind}
+use Rattle.event_script.specs.declared.error.ScriptError.{ScriptError}
+use Rattle.event_script.specs.Law.{kind_number, line_number}
+use Rattle.mote_sim.specs.Fields.{field}
+
+-- The file with that number is longer than its limit; the first file is no script; the script or an image is not built;
+-- the file is no image; its code has no units; the image to upgrade is of the second version; the image is rewritten, or
+-- sealed, already.
+pub data Refusal : Type 0 where
+  TooLong : ℕ → Refusal
+  BadScript : ScriptError → Refusal
+  Unbuilt : Refusal
+  BadImage : ImageError → Refusal
+  BadCode : CodeError → Refusal
+  IsUpgraded : Refusal
+  IsAlready : Refusal
+
+abbrev pub unbuilt_line : List ℕ
+unbuilt_line = codes "refused unbuilt\n"
+
+abbrev pub upgraded_line : List ℕ
+upgraded_line = codes "refused upgraded\n"
+
+abbrev pub already_line : List ℕ
+already_line = codes "refused already\n"
+
+abbrev pub size_line : ℕ → List ℕ
+size_line number = codes "refused size" ++ field number ++ codes "\n"
+
+-- The number of what refuses the script, and the line. (Want of memory refuses none.)
+abbrev pub script_line : ScriptError → List ℕ
+script_line e = codes "refused script" ++ field (kind_number e) ++ field (line_number e) ++ codes "\n"
+
+-- the number of what refuses the file, and its place or version
+abbrev pub image_line : ImageError → List ℕ
+image_line e = codes "refused image" ++ field (number_of e) ++ field (value_of e) ++ codes "\n"
+
+-- The number of what refuses the code, the word or the count that it names, and the kind of a refused instruction.
+-- (Want of memory has no number, and refuses no code.)
+abbrev pub code_line : CodeError → List ℕ
+code_line e =
+    codes "refused code" ++ field (unwrap_or (error_number e) 0) ++ field (error_word e) ++ field (error_kind e) ++ codes "\n"
+
+abbrev pub line_of : Refusal → List ℕ
+line_of (TooLong number) = size_line number
+line_of (BadScript e) = script_line e
+line_of Unbuilt = unbuilt_line
+line_of (BadImage e) = image_line e
+line_of (BadCode e) = code_line e
+line_of IsUpgraded = upgraded_line
+line_of IsAlready = already_line
