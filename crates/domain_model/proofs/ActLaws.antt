@@ -29,7 +29,7 @@ use Rattle.domain_model.specs.Units.{IsBuilt, AreProper, Service, Malloc, Free, 
 use Rattle.domain_model.specs.Modules.{id_at, is_loaded, module_named}
 use Rattle.domain_model.specs.Payloads.{holds_bytes}
 use Rattle.domain_model.specs.Given.{Given, given}
-use Rattle.domain_model.specs.Calls.{malloc_given, free_held, change_held, changed_to, message_of, post_where, post_to, long_message_of, carrying, long_where, long_to, long_held, taken, take_by, take_hand, send_within, send_held, serve}
+use Rattle.domain_model.specs.Calls.{malloc_given, free_held, change_held, changed_to, message_of, post_where, post_to, long_message_of, carrying, long_where, long_to, long_held, payload_taken, take_by, take_hand, send_within, send_held, serve}
 use Rattle.domain_model.specs.Act.{Acted, goes_to, goes_on, act, act_running, act_at, act_effect, act_under, act_group, act_reserve, act_skip, act_branch, act_return, act_call, passes, taken, group_sp, has_room, store_address, may_store, bank, next_unit}
 use Rattle.domain_model.specs.Free.{calls_kernel, ends_handler}
 use Rattle.domain_model.specs.Good.{GoodMachine, GoodModule, GoodHandler, GoodRunning, GoodHand, GoodEnding}
@@ -94,7 +94,7 @@ return_outcome false calls k r = ends _ refl
 same_queues : (k : KernelState) (p : Processor) (blocks : List Segment) (lines : List TraceLine) → length lines ≤ 1 → list_any is_unload lines ≡ false → Serves k (with_parts k p k.queues blocks k.hand) lines
 same_queues k p blocks lines few quiet = record { alone = refl; more = omega arith; few = few; quiet = quiet }
 
-one_more : (high : Bool) (m : Message) (k : KernelState) → length (in_order (appended high m k.queues)) ≤ length (in_order k.queues) + 1
+pub one_more : (high : Bool) (m : Message) (k : KernelState) → length (in_order (appended high m k.queues)) ≤ length (in_order k.queues) + 1
 one_more high m k =
     cond_both high (record { high = k.queues.high ++ m ∷ []; low = k.queues.low }) (record { high = k.queues.high; low = k.queues.low ++ m ∷ [] })
     (λ (q : Lists Message). length (in_order q) ≤ length (in_order k.queues) + 1)
@@ -129,7 +129,7 @@ long_outcome : (b : Bool) (m : Message) (address : ℕ) (k : KernelState) (r : R
 long_outcome false m address k r = ends _ refl
 long_outcome true m address k r = serves _ [] refl (long_to_serves (is_loaded k.modules m.to) m address k)
 
-taken_serves : (o : Option Payload) (m : Message) (run : Running) (k : KernelState) → Serves k (taken o m run k) []
+taken_serves : (o : Option Payload) (m : Message) (run : Running) (k : KernelState) → Serves k (payload_taken o m run k) []
 taken_serves None m run k = same_queues k _ k.blocks [] (omega arith) refl
 taken_serves (Some p) m run k = record { alone = refl; more = omega arith; few = omega arith; quiet = refl }
 

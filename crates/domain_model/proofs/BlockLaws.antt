@@ -1,25 +1,26 @@
 -- The blocks of the heap under the loaded modules: who owns them, where they lie, and what a state block is.
-use Rattle.std.proofs.Common.{◌≡◌, ℕ, zero, suc, ◌+◌, ◌-◌, ◌*◌, ◌^◌, ◌<◌, ◌≤◌, ◌⊎◌, inl, inr, ◌==◌, ◌&&◌, List, [], ◌∷◌, length, not, Bool, true, false, refl, sym, ap, ◌∙◌, subst, arith, Option, Some, None, nat_lt, if◌then◌else◌}
+use Rattle.std.proofs.Common.{◌≡◌, ℕ, zero, suc, ◌+◌, ◌-◌, ◌*◌, ◌^◌, ◌<◌, ◌≤◌, ◌⊎◌, ◌↔◌, inl, inr, IsSomeAnd, eq-eqb, nat_le, ◌==◌, ◌&&◌, List, [], ◌∷◌, length, not, Bool, true, false, refl, sym, ap, ◌∙◌, subst, arith, Option, Some, None, nat_lt, if◌then◌else◌}
 use Rattle.std.specs.List.{AllByRecursion}
 use Rattle.std.specs.Prelude.{option_map}
 use Rattle.std.specs.Option.{option_map_or}
-use Rattle.std.proofs.lemmas.Bool.{cases_Bool, cond-true, cond-false, cond_both, eqb-false, or_cases, and_parts, not-true}
+use Rattle.std.proofs.lemmas.Bool.{cases_Bool, cond-true, cond-false, cond_both, eqb-true, eqb-false, leb-true, le-leb, or_cases, and_parts, and_from, not-true, true≢false}
 use Rattle.std.proofs.lemmas.Option.{none-some, same_Some}
 use Rattle.std.proofs.lemmas.List.{length-append, length-take, length-drop, length-replicate}
 use Rattle.mote_base.specs.Messages.{names}
 use Rattle.mote_layout.specs.Memory.{ram_start, ram_bytes, heap_start, red_zone_start, block_bytes, domain_count, kernel}
-use Rattle.mote_layout.specs.Blocks.{AreBlocks, AreBlocksFrom, block_address, block_of, covers, inserted, without, without_owner, given_to, handed_over, owns}
+use Rattle.mote_layout.specs.Blocks.{AreBlocks, AreBlocksFrom, block_address, block_of, covers, starting_at, inserted, without, without_owner, given_to, handed_over, owns}
 use Rattle.mote_layout.specs.Fit.{IsLeastFit, least_of, fit, blocks_for}
-use Rattle.mote_layout.specs.Requests.{address_for, place_for, segment_for, served}
-use Rattle.mote_layout.specs.Parcels.{Payload, KernelStays, KernelGains}
+use Rattle.mote_layout.specs.Requests.{address_for, place_for, segment_for, served, beginning_at, holds, HoldsBytes}
+use Rattle.mote_layout.specs.Parcels.{Payload, IsParcelOf, KernelStays, KernelGains, KernelLoses}
 use Rattle.mote_layout.specs.declared.segment.Segment.{Segment}
 use Rattle.mote_layout.proofs.BlockLists.{AreBlocks-inserted}
-use Rattle.mote_layout.proofs.Owners.{covers-true}
+use Rattle.mote_layout.proofs.Owners.{covers-true, holds-true}
 use Rattle.mote_layout.proofs.LeastFit.{fit-some}
-use Rattle.mote_layout.proofs.Entries.{served_stays, served_gains}
+use Rattle.mote_layout.proofs.Beginnings.{begins_at}
+use Rattle.mote_layout.proofs.Entries.{served_stays, served_gains, without_stays, handed_over_stays, handed_over_gains, handed_over_loses}
 use Rattle.domain_model.specs.Bytes.{AreBytes}
 use Rattle.domain_model.specs.State.{Message, Loaded, KernelState, with_zeros}
-use Rattle.domain_model.specs.Payloads.{without_load, without_payloads}
+use Rattle.domain_model.specs.Payloads.{holds_bytes, without_load, without_payloads}
 use Rattle.domain_model.specs.Modules.{in_use, free_domain, without_domain}
 use Rattle.domain_model.specs.Given.{Given, given_at, given, nothing_given}
 use Rattle.domain_model.specs.Turn.{state_where, state_block}
@@ -180,6 +181,68 @@ bytes_at_place (Some address) k domain size g e h =
 
 pub given_within : (k : KernelState) (domain size : ℕ) (g : Given) → given k domain size ≡ Some g → (ram_start ≤ g.address) × (g.address - ram_start + size ≤ ram_bytes)
 given_within k domain size g h = bytes_at_place (address_for k.blocks size) k domain size g refl h
+
+-- What a caller holds at an address, as its segment.
+pub record HeldAt (ss : List Segment) (owner address bytes : ℕ) : Type 0 where
+  pub segment : Segment
+  pub begins : beginning_at ss address ≡ Some segment
+  pub owner_of : segment.owner ≡ owner
+  pub room : bytes ≤ block_bytes * segment.count
+
+held_from : (o : Option Segment) (ss : List Segment) (owner address bytes : ℕ) → beginning_at ss address ≡ o → IsSomeAnd o (λ s. (s.owner ≡ owner) × (bytes ≤ block_bytes * s.count)) → HeldAt ss owner address bytes
+held_from None ss owner address bytes e h = absurd h
+held_from (Some s) ss owner address bytes e h = record { segment = s; begins = e; owner_of = h.0; room = h.1 }
+
+pub bytes_held : (ss : List Segment) (owner address bytes : ℕ) → HoldsBytes ss owner address bytes → HeldAt ss owner address bytes
+bytes_held ss owner address bytes h = held_from (beginning_at ss address) ss owner address bytes refl h
+
+bytes_test : (o : Option Segment) (owner bytes : ℕ) → (option_map_or (λ (s : Segment). s.owner == owner && nat_le bytes (block_bytes * s.count)) o false ≡ true) ↔ IsSomeAnd o (λ s. (s.owner ≡ owner) × (bytes ≤ block_bytes * s.count))
+bytes_test None owner bytes = (λ e. absurd (true≢false (sym e)), λ h. absurd h)
+bytes_test (Some s) owner bytes = (
+  λ e. let parts = and_parts (s.owner == owner) (nat_le bytes (block_bytes * s.count)) e in (eqb-true s.owner owner parts.0, leb-true bytes (block_bytes * s.count) parts.1),
+  λ h. and_from (s.owner == owner) (nat_le bytes (block_bytes * s.count)) (eq-eqb s.owner owner h.0) (le-leb bytes (block_bytes * s.count) h.1),
+)
+
+pub holds_bytes-true : (ss : List Segment) (owner address bytes : ℕ) → (holds_bytes ss owner address bytes ≡ true) ↔ HoldsBytes ss owner address bytes
+holds_bytes-true ss owner address bytes = bytes_test (beginning_at ss address) owner bytes
+
+some_bytes : (o : Option Segment) (owner : ℕ) → IsSomeAnd o (λ s. s.owner ≡ owner) ↔ IsSomeAnd o (λ s. (s.owner ≡ owner) × (0 ≤ block_bytes * s.count))
+some_bytes None owner = (λ h. h, λ h. h)
+some_bytes (Some s) owner = (λ h. (h, omega arith), λ h. h.0)
+
+pub holds_none : (ss : List Segment) (owner address : ℕ) → (holds ss owner address ≡ true) ↔ HoldsBytes ss owner address 0
+holds_none ss owner address =
+    let test = holds-true ss owner address in
+    let bytes = some_bytes (beginning_at ss address) owner in
+    (λ e. bytes.0 (test.0 e), λ h. test.1 (bytes.1 h))
+
+-- It is freed, handed to another domain, or made a payload of the kernel's.
+pub freed_stays : (ss : List Segment) (owner address bytes : ℕ) → AreBlocks ss → owner < kernel → HoldsBytes ss owner address bytes → KernelStays ss (without (block_of address) ss)
+freed_stays ss owner address bytes blocks domain h =
+    let held = bytes_held ss owner address bytes h in
+    subst (λ (b : ℕ). KernelStays ss (without b ss)) (sym (begins_at ss address held.segment blocks held.begins).block)
+    (without_stays ss address held.segment blocks held.begins (omega (arith, held.owner_of, domain)))
+
+pub changed_stays : (ss : List Segment) (owner address bytes to : ℕ) → AreBlocks ss → owner < kernel → to < kernel → HoldsBytes ss owner address bytes → KernelStays ss (handed_over (block_of address) to ss)
+changed_stays ss owner address bytes to blocks domain other h =
+    let held = bytes_held ss owner address bytes h in
+    subst (λ (b : ℕ). KernelStays ss (handed_over b to ss)) (sym (begins_at ss address held.segment blocks held.begins).block)
+    (handed_over_stays ss address to held.segment blocks held.begins (omega (arith, held.owner_of, domain)) other)
+
+pub lifted_gains : (ss : List Segment) (owner address bytes : ℕ) → AreBlocks ss → owner < kernel → HoldsBytes ss owner address bytes → KernelGains (record { block = block_of address; len = bytes }) ss (handed_over (block_of address) kernel ss)
+lifted_gains ss owner address bytes blocks domain h =
+    let held = bytes_held ss owner address bytes h in
+    subst (λ (b : ℕ). KernelGains (record { block = b; len = bytes }) ss (handed_over b kernel ss)) (sym (begins_at ss address held.segment blocks held.begins).block)
+    (handed_over_gains ss address bytes held.segment blocks held.begins (omega (arith, held.owner_of, domain)) held.room)
+
+-- A payload is handed to a domain.
+settled_from : (o : Option Segment) (ss : List Segment) (p : Payload) (to : ℕ) → AreBlocks ss → IsParcelOf ss p → to < kernel → starting_at ss p.block ≡ o → KernelLoses p ss (handed_over p.block to ss)
+settled_from None ss p to blocks parcel domain e =
+    absurd (subst (λ (o : Option Segment). IsSomeAnd o (λ s. (s.owner ≡ kernel) × (p.len ≤ block_bytes * s.count))) e parcel)
+settled_from (Some s) ss p to blocks parcel domain e = handed_over_loses ss p to s blocks parcel e domain
+
+pub settled_loses : (ss : List Segment) (p : Payload) (to : ℕ) → AreBlocks ss → IsParcelOf ss p → to < kernel → KernelLoses p ss (handed_over p.block to ss)
+settled_loses ss p to blocks parcel domain = settled_from (starting_at ss p.block) ss p to blocks parcel domain refl
 
 -- Owners.
 

@@ -12,6 +12,8 @@ pub mod StackLaws
 pub mod ActLaws
 pub mod MachineLaws
 pub mod UnitsKept
+pub mod HearLaws
+pub mod DumpLaws
 pub mod CloseLaws
 pub mod OwningLaws
 pub mod TurnLaws

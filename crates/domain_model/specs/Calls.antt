@@ -126,13 +126,13 @@ post_long k run =
 
 -- `take` gives the receiver of the message in hand its payload, where it has one that was not taken, and answers the address.
 -- The message has none any more. Else `take` answers 0.
-abbrev pub taken : Option Payload → Message → Running → KernelState → KernelState
-taken None m run k = answered k 0
-taken (Some p) m run k =
+abbrev pub payload_taken : Option Payload → Message → Running → KernelState → KernelState
+payload_taken None m run k = answered k 0
+payload_taken (Some p) m run k =
     answered (record k { blocks = handed_over p.block run.domain k.blocks; hand = Some (record m { load = None }) }) (block_address p.block)
 
 abbrev pub take_by : Bool → Message → Running → KernelState → KernelState
-take_by true m run k = taken m.load m run k
+take_by true m run k = payload_taken m.load m run k
 take_by false m run k = answered k 0
 
 abbrev pub take_hand : Option Message → Running → KernelState → KernelState
