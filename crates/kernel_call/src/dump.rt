@@ -50,14 +50,14 @@ fn dump_modules(modules: &Modules, lines: &mut Lines)
 }
 
 /// The lines of the blocks, at most one for each block of the heap.
-fn dump_blocks(map: &MemoryMap, modules: &Modules, lines: &mut Lines)
-    requires blocks { AreBlocks map.now }
+fn dump_blocks(blocks: &MemoryMap, modules: &Modules, lines: &mut Lines)
+    requires sorted { AreBlocks blocks.now }
     requires room { length lines.old + block_count ≤ turn_lines }
-    ensures lines { lines.new ≡ lines.old ++ map (block_line modules.now) map.now }
+    ensures lines { lines.new ≡ lines.old ++ map (block_line modules.now) blocks.now }
     ensures few { length lines.new ≤ length lines.old + block_count }
 {
     for block in 0..BLOCKS {
-        if let Some(segment) = map.segment_at(block_address(block)) {
+        if let Some(segment) = blocks.segment_at(block_address(block)) {
             if segment.first == block {
                 lines.add(block_line(&segment, modules));
             }
