@@ -34,7 +34,7 @@ pub held_within : (ss : List Segment) (owner address bytes : ℕ) → AreBlocks 
 held_within ss owner address bytes blocks h =
     let held = bytes_held ss owner address bytes h in
     let begun = begins_at ss address held.segment blocks held.begins in
-    (omega (arith, begun.address), omega (arith, begun.address, held.room, begun.fits.2.0))
+    (omega (arith, begun.address), omega (arith, begun.address, held.room, begun.fits.2))
 
 -- A list without its first message that names an id.
 naming_first : (id b : ℕ) (ms : List Message) (m : Message) → find (names id) ms ≡ Some m → naming_in b ms ≡ naming_of b m.load + naming_in b (without_first (names id) ms)
@@ -65,6 +65,12 @@ found_each id P (x ∷ xs) m is h =
       | inr other ↦ found_each id P xs m (rw other at is) h.1
     ]
 
+first_past : (id : ℕ) (x : Message) (xs : List Message) → names id x ≡ false → without_first (names id) (x ∷ xs) ≡ x ∷ without_first (names id) xs
+first_past id x xs other = rw other refl
+
+freed_past : (id : ℕ) (x : Message) (xs : List Message) (ss : List Segment) → names id x ≡ false → without_payloads id (x ∷ xs) ss ≡ without_payloads id xs ss
+freed_past id x xs ss other = rw other refl
+
 freed_first : (id : ℕ) (ms : List Message) (m : Message) (ss : List Segment) → find (names id) ms ≡ Some m → without_payloads id (without_first (names id) ms) (without_load m.load ss) ≡ without_payloads id ms ss
 freed_first id [] m ss is = absurd (none-some m is)
 freed_first id (x ∷ xs) m ss is =
@@ -72,7 +78,12 @@ freed_first id (x ∷ xs) m ss is =
       | inl named ↦
           let some : Some x ≡ Some m = rw named at is in
           rw named (ap (λ (y : Message). without_payloads id xs (without_load y.load ss)) (sym (same_Some x m some)))
-      | inr other ↦ rw (other, other, other) (freed_first id xs m ss (rw other at is))
+      | inr other ↦
+          let now = without_load m.load ss in
+          ap (λ (l : List Message). without_payloads id l now) (first_past id x xs other)
+          ∙ freed_past id x (without_first (names id) xs) now other
+          ∙ freed_first id xs m ss (rw other at is)
+          ∙ sym (freed_past id x xs ss other)
     ]
 
 freed_none : (id : ℕ) (ms : List Message) (ss : List Segment) → find (names id) ms ≡ None → without_payloads id ms ss ≡ ss
