@@ -1,11 +1,11 @@
 -- What a dump prints, line by line.
-use Rattle.std.proofs.Common.{◌≡◌, ◌≢◌, ◌∙◌, refl, sym, ap, ℕ, zero, suc, ◌+◌, ◌-◌, ◌<◌, ◌≤◌, eqb, inl, inr, true, false, List, [], ◌∷◌, ◌++◌, length, drop, map, filter, get_or, Option, Some, None, arith, append_assoc, append-nil, length-append}
+use Rattle.std.proofs.Common.{◌≡◌, ◌∙◌, refl, sym, ap, ℕ, suc, ◌+◌, ◌-◌, ◌<◌, ◌≤◌, eqb, inl, inr, List, [], ◌∷◌, ◌++◌, length, drop, map, filter, Option, Some, None, arith}
 use Rattle.std.specs.Prelude.{nat_le, option_map, slice_get, IfSome}
 use Rattle.std.proofs.Math.Seq.{drop-cons}
 use Rattle.std.proofs.lemmas.Bool.{cases_Bool, cases_lt, eqb-true, eqb-false, eq-eqb, ne_eqb, le-leb, lt-leb}
 use Rattle.std.proofs.lemmas.Option.{none-some, same_Some, slice_get_within, get_or_from_slice_get}
 use Rattle.mote_layout.specs.Memory.{block_count, domain_count}
-use Rattle.mote_layout.specs.Blocks.{AreBlocks, AreBlocksFrom, FitsBehind, block_address, segment_at, starting_at}
+use Rattle.mote_layout.specs.Blocks.{AreBlocks, AreBlocksFrom, block_address, segment_at, starting_at}
 use Rattle.mote_layout.specs.declared.segment.Segment.{Segment}
 use Rattle.mote_layout.proofs.Beginnings.{if_begins, beginning_at-segment_at, beginning_at-starting_at}
 use Rattle.mote_layout.proofs.OneSegment.{starting_at-fits}
@@ -13,7 +13,7 @@ use Rattle.domain_model.specs.declared.line.TraceLine.{TraceLine}
 use Rattle.domain_model.specs.declared.line.TraceLine.TheVariants as line
 use Rattle.domain_model.specs.State.{Message, Loaded}
 use Rattle.domain_model.specs.Modules.{module_at}
-use Rattle.domain_model.specs.Dump.{block_line, message_line, module_line, module_lines, modules_dumped}
+use Rattle.domain_model.specs.Dump.{block_line, module_line, module_lines, modules_dumped}
 use Rattle.kernel_call.specs.declared.loaded.ModuleRow.{ModuleRow}
 use Rattle.kernel_call.specs.Rows.{row_of}
 use Rattle.kernel_call.specs.Values.{at_most_one, begun_by}

@@ -1,23 +1,23 @@
 -- What the changes of the mail keep.
-use Rattle.std.proofs.Common.{◌≡◌, ◌∙◌, refl, sym, ap, ℕ, ◌+◌, ◌≤◌, inl, inr, true, false, List, [], ◌∷◌, length, Option, Some, None, arith, subst}
+use Rattle.std.proofs.Common.{◌≡◌, ◌∙◌, refl, sym, ap, ℕ, ◌+◌, ◌≤◌, inl, inr, false, List, [], ◌∷◌, length, Option, Some, None, arith, subst}
 use Rattle.std.specs.Prelude.{find, nat_lt}
-use Rattle.std.specs.List.{AllByRecursion, list_any}
-use Rattle.std.proofs.lemmas.Bool.{cases_Bool, cond_both, or_parts}
+use Rattle.std.specs.List.{AllByRecursion}
+use Rattle.std.proofs.lemmas.Bool.{cases_Bool, cond_both}
 use Rattle.std.proofs.lemmas.Option.{same_Some, none-some}
 use Rattle.mote_base.specs.Messages.{Lists, queue_limit, list_of, in_order, appended, posted, first, without, without_first, names, unnamed}
 use Rattle.mote_base.proofs.Named.{unnamed-none, unnamed-without, without-none}
-use Rattle.mote_layout.specs.Memory.{heap_start, heap_end, kernel, block_bytes}
-use Rattle.mote_layout.specs.Blocks.{AreBlocks, block_address}
+use Rattle.mote_layout.specs.Memory.{heap_start, heap_end}
+use Rattle.mote_layout.specs.Blocks.{AreBlocks}
 use Rattle.mote_layout.specs.Parcels.{kernel_entries}
 use Rattle.mote_layout.specs.Requests.{HoldsBytes}
 use Rattle.mote_layout.specs.declared.segment.Segment.{Segment}
 use Rattle.mote_layout.proofs.Beginnings.{begins_at}
 use Rattle.msg_queue.proofs.Rest.{rest-first}
 use Rattle.domain_model.specs.State.{Message}
-use Rattle.domain_model.specs.Payloads.{load_of, without_load, without_payloads, naming_of, naming_in, namings, IsHeld, HasHeld, HoldsPayloads}
+use Rattle.domain_model.specs.Payloads.{load_of, without_load, without_payloads, naming_of, naming_in, IsHeld, HasHeld, HoldsPayloads}
 use Rattle.domain_model.proofs.Kept.{each_either}
 use Rattle.domain_model.proofs.BlockLaws.{bytes_held}
-use Rattle.domain_model.proofs.PayloadLaws.{Loses, loses_load, each_stays, naming_in-append, payloads_posted, payloads_unnamed}
+use Rattle.domain_model.proofs.PayloadLaws.{loses_load, each_stays, naming_in-append, payloads_posted, payloads_unnamed}
 use Rattle.kernel_call.specs.Mail.{unloaded}
 
 -- A message without a payload is posted, or finds its queue full.

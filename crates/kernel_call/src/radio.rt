@@ -92,13 +92,14 @@ impl Kernel {
         ensures same { IfNone result (self.new ≡ self.old) }
         ensures given { IfSome result (λ address. given self.old kernel message.len ≡ Some (given_as self.new address)) }
         ensures rest { IfSome result (λ address. self.new ≡ record (with_given self.old (given_as self.new address)) {
-            queues = appended false (carrying message (block_of address)) self.old.queues;
+          queues = appended false (carrying message (block_of address)) self.old.queues;
         }) }
         ensures within { IfSome result (λ address. LiesInHeap message.len address) }
     {
         let len = message.len;
         let address = self.mail.issue(message)?;
-        self.cpu.clear(address, BLOCK_BYTES * len.div_ceil(BLOCK_BYTES));
+        self.cpu
+            .clear(address, BLOCK_BYTES * len.div_ceil(BLOCK_BYTES));
         Some(address)
     }
 }

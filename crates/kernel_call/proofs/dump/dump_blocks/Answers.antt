@@ -20,13 +20,14 @@ loop-block-preserved c =
     let lines = c.loop-block.lines in
     let one = map (block_line modules) (at_most_one (starting_at ss b)) in
     let next : b + 1 ≡ suc b = omega arith in
-    let size : length c.tell_block.new.lines ≡ length lines + length one = ap (λ (l : List TraceLine). length l) c.tell_block.ensures ∙ length-append lines one in
-    (ap (λ (l : List TraceLine). l ++ map (block_line modules) (from (b + 1) ss)) c.tell_block.ensures
-    ∙ ap (λ (n : ℕ). (lines ++ one) ++ map (block_line modules) (from n ss)) next
-    ∙ append_assoc lines one (map (block_line modules) (from (suc b) ss))
-    ∙ ap (λ (l : List TraceLine). lines ++ l) (sym (segments_next modules ss b c.requires.sorted))
-    ∙ c.loop-block.invariant.0,
-    omega (arith, size, one_segment modules (starting_at ss b), c.loop-block.invariant.1))
+    let size : length c.tell_block.new.lines ≡ length lines + length one = ap (λ (l : List TraceLine). length l) c.tell_block.ensures ∙ length-append lines one in (
+      ap (λ (l : List TraceLine). l ++ map (block_line modules) (from (b + 1) ss)) c.tell_block.ensures
+          ∙ ap (λ (n : ℕ). (lines ++ one) ++ map (block_line modules) (from n ss)) next
+          ∙ append_assoc lines one (map (block_line modules) (from (suc b) ss))
+          ∙ ap (λ (l : List TraceLine). lines ++ l) (sym (segments_next modules ss b c.requires.sorted))
+          ∙ c.loop-block.invariant.0,
+      omega (arith, size, one_segment modules (starting_at ss b), c.loop-block.invariant.1),
+    )
 
 pub returns-clause-lines : goal.returns-clause-lines
 returns-clause-lines c =

@@ -15,10 +15,11 @@ loop-place-preserved c =
     let one : List TraceLine = message_line c.args.high m ∷ [] in
     let next : n + 1 ≡ suc n = omega arith in
     let told : c.add.new.self ≡ lines ++ one = c.add.ensures ∙ ap (λ (x : TraceLine). lines ++ x ∷ []) c.message_line.ensures in
-    let rest = λ (k : ℕ). map (message_line c.args.high) (drop k ms) in
-    (ap (λ (l : List TraceLine). l ++ rest (n + 1)) told
-    ∙ ap (λ (k : ℕ). (lines ++ one) ++ rest k) next
-    ∙ append_assoc lines one (rest (suc n))
-    ∙ ap (λ (l : List Message). lines ++ map (message_line c.args.high) l) (sym (messages_next ms n m (grind arith)))
-    ∙ c.loop-place.invariant.0,
-    omega (arith, ap (λ (l : List TraceLine). length l) told, length-append lines one, c.loop-place.invariant.1))
+    let rest = λ (k : ℕ). map (message_line c.args.high) (drop k ms) in (
+      ap (λ (l : List TraceLine). l ++ rest (n + 1)) told
+          ∙ ap (λ (k : ℕ). (lines ++ one) ++ rest k) next
+          ∙ append_assoc lines one (rest (suc n))
+          ∙ ap (λ (l : List Message). lines ++ map (message_line c.args.high) l) (sym (messages_next ms n m (grind arith)))
+          ∙ c.loop-place.invariant.0,
+      omega (arith, ap (λ (l : List TraceLine). length l) told, length-append lines one, c.loop-place.invariant.1),
+    )

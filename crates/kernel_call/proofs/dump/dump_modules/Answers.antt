@@ -16,13 +16,14 @@ loop-domain-preserved c =
     let lines = c.loop-domain.lines in
     let one = module_line (module_at modules d) in
     let next : d + 1 ≡ suc d = omega arith in
-    let size : length c.tell_module.new.lines ≡ length lines + length one = ap (λ (l : List TraceLine). length l) c.tell_module.ensures ∙ length-append lines one in
-    (ap (λ (l : List TraceLine). l ++ lines_from modules (d + 1)) c.tell_module.ensures
-    ∙ ap (λ (n : ℕ). (lines ++ one) ++ lines_from modules n) next
-    ∙ append_assoc lines one (lines_from modules (suc d))
-    ∙ ap (λ (l : List TraceLine). lines ++ l) (sym (lines_next modules d (omega arith)))
-    ∙ c.loop-domain.invariant.0,
-    omega (arith, size, one_module (module_at modules d), c.loop-domain.invariant.1))
+    let size : length c.tell_module.new.lines ≡ length lines + length one = ap (λ (l : List TraceLine). length l) c.tell_module.ensures ∙ length-append lines one in (
+      ap (λ (l : List TraceLine). l ++ lines_from modules (d + 1)) c.tell_module.ensures
+          ∙ ap (λ (n : ℕ). (lines ++ one) ++ lines_from modules n) next
+          ∙ append_assoc lines one (lines_from modules (suc d))
+          ∙ ap (λ (l : List TraceLine). lines ++ l) (sym (lines_next modules d (omega arith)))
+          ∙ c.loop-domain.invariant.0,
+      omega (arith, size, one_module (module_at modules d), c.loop-domain.invariant.1),
+    )
 
 pub returns-clause-lines : goal.returns-clause-lines
 returns-clause-lines c =

@@ -1,4 +1,4 @@
-use Rattle.std.proofs.Common.{◌≡◌, ◌∙◌, ◌<◌, refl, sym, subst, length, Some, None}
+use Rattle.std.proofs.Common.{◌≡◌, ◌∙◌, ◌<◌, refl, sym, subst, length, None}
 use Rattle.mote_base.specs.Messages.{Lists, in_order, first, names}
 use Rattle.mote_base.proofs.Named.{fewer}
 use Rattle.mote_layout.specs.Blocks.{AreBlocks}

@@ -1,4 +1,3 @@
-use Rattle.std.proofs.Common.{rules, ◌≡◌, sym, ◌∙◌}
 use Rattle.kernel_call.proofs.Mails.{held_within}
 use Rattle.kernel_call.proofs.mail.Mail.holds.Goals as goal
 
