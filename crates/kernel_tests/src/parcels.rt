@@ -4,7 +4,7 @@ ghost use Rattle.std.specs.Prelude.{◌≤◌, length};
 ghost use Rattle.mote_layout.specs.Limits.{payload_limit};
 
 use crate::kernel::{bytes, call, end, in_handler, next, put, refused, set, start, unload};
-use domain_model::{Lines, TraceLine, Why};
+use domain_model::{FaultNote, Lines, TraceLine, Why};
 use kernel_call::Kernel;
 use std::test::Fail;
 
@@ -18,7 +18,13 @@ const TAKE: u8 = 5;
 const SEND: u8 = 10;
 
 /// Posts so many bytes of the block at an address to a module, by the low queue.
-fn post(k: &mut Kernel, to: u16, address: u16, len: u16, lines: &mut Lines) -> Option<Result<u16, domain_model::FaultNote>> {
+fn post(
+    k: &mut Kernel,
+    to: u16,
+    address: u16,
+    len: u16,
+    lines: &mut Lines,
+) -> Option<Result<u16, FaultNote>> {
     set(k, 20, len);
     set(k, 18, address);
     call(k, POST_LONG, to, 9, lines)
@@ -114,7 +120,10 @@ fn packets_wait_or_are_dropped(rt: HostRuntime) -> Result<(), Fail> {
     put(&mut k, 0x0208, 9);
     put(&mut k, 0x020A, 9);
     assert_eq!(rt; hear(&mut k, 2, &[0xAA, 0xBB], &mut lines), None);
-    assert_eq!(rt; bytes(&k, [0x0208, 0x0209, 0x020A, 0x020B, 0x020C, 0x020D]), [0xAA, 0xBB, 0, 0, 0, 0]);
+    assert_eq!(rt;
+        bytes(&k, [0x0208, 0x0209, 0x020A, 0x020B, 0x020C, 0x020D]),
+        [0xAA, 0xBB, 0, 0, 0, 0]
+    );
     // The heap is full, and then the queue as well.
     assert_eq!(rt; call(&mut k, MALLOC, 3056, 0, &mut lines), Some(Ok(0x0210)));
     assert_eq!(rt; hear(&mut k, 2, &[1], &mut lines), Some(Why::Room));
@@ -162,14 +171,26 @@ fn sends_what_a_packet_holds(rt: HostRuntime) -> Result<(), Fail> {
     for (len, answer) in [(96, 0), (97, 1), (104, 1)] {
         set(&mut k, 20, len);
         set(&mut k, 18, 0x0208);
-        assert_eq!(rt; call(&mut k, SEND, 0x0304, 5, &mut lines), Some(Ok(answer)), "{len}");
+        assert_eq!(rt;
+            call(&mut k, SEND, 0x0304, 5, &mut lines),
+            Some(Ok(answer)),
+            "{len}"
+        );
     }
     set(&mut k, 20, 2);
     assert_eq!(rt; call(&mut k, SEND, 0x0304, 5, &mut lines), Some(Ok(0)));
     match lines.items() {
-        [TraceLine::Send { time, id, dest, sort, bytes }] => {
+        [
+            TraceLine::Send {
+                time,
+                id,
+                dest,
+                sort,
+                bytes,
+            },
+        ] => {
             assert_eq!(rt; (*time, *id, *dest, *sort), (0, 1, 0x0304, 5));
-            assert_eq!(rt; bytes.as_slice(), &[0xAA, 0]);
+            assert_eq!(rt; bytes.as_slice(), [0xAA, 0].as_slice());
         }
         _ => assert!(rt; false, "one line"),
     }
