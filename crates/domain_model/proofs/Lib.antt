@@ -12,6 +12,7 @@ pub mod StackLaws
 pub mod ActLaws
 pub mod MachineLaws
 pub mod UnitsKept
+pub mod SegmentLaws
 pub mod HearLaws
 pub mod DumpLaws
 pub mod CloseLaws
@@ -24,6 +25,7 @@ pub mod ConfinedLaws
 pub mod CrossingLaws
 pub mod UnloadLaws
 pub mod OthersLaws
+pub mod HolderLaws
 pub mod LawfulLaws
 pub mod FileLaws
 pub mod RanLaws

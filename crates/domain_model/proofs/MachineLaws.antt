@@ -251,7 +251,7 @@ lists_within k r h = h.queues.within
 -- A module goes out.
 
 -- the blocks without the payload in hand and those of the messages that name an id
-abbrev unnamed_blocks : KernelState → ℕ → List Segment
+abbrev pub unnamed_blocks : KernelState → ℕ → List Segment
 unnamed_blocks k id = without_payloads id (in_order k.queues) (handler_ended k).blocks
 
 pub purged_good : (k : KernelState) (r : RunnerState) (row : Loaded) → GoodMachine k r → Contains k.modules row → GoodMachine (with_none_ending (purged (handler_ended k) row.face.id row.domain)) (emptied r row.domain)

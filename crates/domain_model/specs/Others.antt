@@ -10,6 +10,7 @@ use Rattle.domain_model.specs.declared.fault.Rule.TheVariants.{Owner}
 use Rattle.domain_model.specs.declared.fault.Served.TheVariants.{Back, Fault}
 use Rattle.domain_model.specs.State.{Message, KernelState, Processor, register, pair}
 use Rattle.domain_model.specs.Modules.{id_at}
+use Rattle.domain_model.specs.Payloads.{load_of, IsHeld}
 use Rattle.domain_model.specs.Units.{Service, Free, ChangeOwn, PostLong, Send}
 use Rattle.domain_model.specs.Calls.{Serving, serve}
 
@@ -35,8 +36,7 @@ pub record LeavesOthers (k : KernelState) (run : Running) (new : KernelState) : 
   pub registers : (d : ℕ) → d ≢ 24 → d ≢ 25 → register new.processor d ≡ register k.processor d
   pub status : (new.processor.sreg ≡ k.processor.sreg) × (new.processor.sp ≡ k.processor.sp)
   pub memory : (i : ℕ) → slice_index new.processor.memory i ≢ slice_index k.processor.memory i → IsGivenOut k run new i
-  pub kept : (owner address : ℕ) → owner ≢ run.domain → owner ≢ kernel → owns k.blocks owner address ≡ true → owns new.blocks owner address ≡ true
-  pub taken : (address : ℕ) → owns k.blocks kernel address ≡ true → (owns new.blocks kernel address ≡ true) ⊎ (TakesPayload k run new × (owns new.blocks run.domain address ≡ true))
+  pub kept : (owner address : ℕ) → owner ≢ run.domain → owns k.blocks owner address ≡ true → (owns new.blocks owner address ≡ true) ⊎ ((owner ≡ kernel) × TakesPayload k run new × (owns new.blocks run.domain address ≡ true))
   pub handed : (owner address : ℕ) → owner ≢ run.domain → owns new.blocks owner address ≡ true → (owns k.blocks owner address ≡ true) ⊎ (owns k.blocks run.domain address ≡ true)
   pub hand : (new.hand ≡ k.hand) ⊎ TakesPayload k run new
   pub rest : new ≡ record k { processor = new.processor; blocks = new.blocks; queues = new.queues; hand = new.hand }
@@ -65,7 +65,7 @@ pub record IsRefused (service : Option Service) (k : KernelState) (run : Running
 
 abbrev pub CallsLeaveOthers : Type 0
 CallsLeaveOthers = (service : Option Service) (run : Running) (k : KernelState) → AreBlocks k.blocks
-    → length k.processor.memory ≡ ram_bytes → LeavesOthers k run (serve service run k).kernel
+    → length k.processor.memory ≡ ram_bytes → IsHeld k.blocks (load_of k.hand) → LeavesOthers k run (serve service run k).kernel
 
 abbrev pub RefusedCallsChangeNothing : Type 0
 RefusedCallsChangeNothing = (service : Option Service) (run : Running) (k : KernelState) (note : FaultNote)
