@@ -46,7 +46,7 @@ dead_at sp address e =
     let both = and_parts (nat_le red_zone_start address) (nat_le address sp) e in
     (leb-true red_zone_start address both.0, leb-true address sp both.1)
 
-kernel_byte_at : (address : ℕ) → is_kernel_byte address ≡ true → (kernel_bytes_start ≤ address) × (address ≤ kernel_bytes_end)
+pub kernel_byte_at : (address : ℕ) → is_kernel_byte address ≡ true → (kernel_bytes_start ≤ address) × (address ≤ kernel_bytes_end)
 kernel_byte_at address e =
     let both = and_parts (nat_le kernel_bytes_start address) (nat_le address kernel_bytes_end) e in
     (leb-true kernel_bytes_start address both.0, leb-true address kernel_bytes_end both.1)

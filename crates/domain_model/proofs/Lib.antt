@@ -25,6 +25,7 @@ pub mod ConfinedLaws
 pub mod CrossingLaws
 pub mod UnloadLaws
 pub mod OthersLaws
+pub mod InterruptLaws
 pub mod HolderLaws
 pub mod LawfulLaws
 pub mod FileLaws

@@ -191,6 +191,46 @@ zeros_there xs place n i fits from to =
     ∙ get_or-append (replicate n 0) (drop (place + n) xs) 0 (i - place) (omega (arith, length-replicate {A = ℕ} n 0, from, to))
     ∙ zero_at n (i - place)
 
+-- What a request that is met leaves: its owner has what nobody had, and who had something has it still.
+pub record IsOut (ss : List Segment) (owner size address : ℕ) : Type 0 where
+  pub from : ram_start ≤ address
+  pub to : address + block_bytes * blocks_for size ≤ ram_start + ram_bytes
+  pub room : size ≤ block_bytes * blocks_for size
+  pub given : (a : ℕ) → address ≤ a → a < address + block_bytes * blocks_for size → (owns (served owner size ss) owner a ≡ true) × ((o : ℕ) → owns ss o a ≡ false)
+  pub kept : (o a : ℕ) → owns ss o a ≡ true → owns (served owner size ss) o a ≡ true
+  pub old : (o a : ℕ) → owns (served owner size ss) o a ≡ true → ((o ≡ owner) × ((x : ℕ) → owns ss x a ≡ false)) ⊎ (owns ss o a ≡ true)
+
+pub served_out : (ss : List Segment) (owner size address : ℕ) → address_for ss size ≡ Some address → IsOut ss owner size address
+served_out ss owner size address is =
+    let at = is_placed ss size address is in
+    let got : Segment = segment_for owner size at.block in
+    let start = at.address_of in
+    let there : served owner size ss ≡ inserted got ss
+    = ap (λ (o : Option ℕ). option_map_or (λ block. inserted (segment_for owner size block) ss) o ss) at.place in
+    let nobody = λ (a : ℕ) (from : block_address at.block ≤ a) (to : a < block_address (at.block + blocks_for size)) (o : ℕ).
+        not_owned_free at.block (blocks_for size) o a ss at.least.fits.1 from to in
+    record {
+      from = omega (arith, start);
+      to = omega (arith, start, at.least.fits.0);
+      room = omega arith;
+      given = λ a from to.
+          let begin : block_address at.block ≤ a = omega (arith, from, start) in
+          let end : a < block_address (at.block + blocks_for size) = omega (arith, to, start) in (
+            subst (λ (bs : List Segment). owns bs owner a ≡ true) (sym there)
+                ((owns-true (inserted got ss) owner a).1 ((Owns-inserted got ss owner a).1 (inl (refl, (begin, end))))),
+            nobody a begin end,
+          );
+      kept = λ o a own.
+          subst (λ (bs : List Segment). owns bs o a ≡ true) (sym there)
+          ((owns-true (inserted got ss) o a).1 ((Owns-inserted got ss o a).1 (inr ((owns-true ss o a).0 own))));
+      old = λ o a own.
+          let now = (Owns-inserted got ss o a).0 ((owns-true (inserted got ss) o a).0 (subst (λ (bs : List Segment). owns bs o a ≡ true) there own)) in
+          elim now [
+            | inl new ↦ inl (sym new.0, nobody a new.1.0 new.1.1)
+            | inr before ↦ inr ((owns-true ss o a).1 before)
+          ];
+    }
+
 -- What each call leaves.
 
 register_answered : (p : Processor) (w d : ℕ) → d ≢ 24 → d ≢ 25 → register (with_pair p 24 w) d ≡ register p d
@@ -235,37 +275,19 @@ module _ (run : Running) (k : KernelState) (fit : AreBlocks k.blocks) (whole : l
   malloc_leaves : (o : Option ℕ) (size : ℕ) → address_for k.blocks size ≡ o → LeavesOthers k run (malloc_given (given_at o k run.domain size) k)
   malloc_leaves None size is = answer_leaves 0
   malloc_leaves (Some address) size is =
-      let at = is_placed k.blocks size address is in
-      let got : Segment = segment_for run.domain size at.block in
-      let start = at.address_of in
-      let room = at.least.fits.0 in
+      let out = served_out k.blocks run.domain size address is in
       let place = address - ram_start in
       let n = block_bytes * blocks_for size in
-      let fits : place ≤ length k.processor.memory = omega (arith, whole, start, room) in
-      let there : served run.domain size k.blocks ≡ inserted got k.blocks
-      = ap (λ (o : Option ℕ). option_map_or (λ block. inserted (segment_for run.domain size block) k.blocks) o k.blocks) at.place in
+      let fits : place ≤ length k.processor.memory = omega (arith, whole, out.to) in
       record {
         registers = λ d first second. register_answered k.processor address d first second;
         status = (refl, refl);
         memory = λ i differs.
             let within = zeros_within k.processor.memory place n i fits differs in
-            let from : block_address at.block ≤ i + ram_start = omega (arith, within.0, start) in
-            let to : i + ram_start < block_address (at.block + blocks_for size) = omega (arith, within.1, start) in
-            record {
-              cleared = zeros_there k.processor.memory place n i fits within.0 within.1;
-              own = subst (λ (bs : List Segment). owns bs run.domain (i + ram_start) ≡ true) (sym there)
-                  ((owns-true (inserted got k.blocks) run.domain (i + ram_start)).1 ((Owns-inserted got k.blocks run.domain (i + ram_start)).1 (inl (refl, (from, to)))));
-              unowned = λ owner. not_owned_free at.block (blocks_for size) owner (i + ram_start) k.blocks at.least.fits.1 from to;
-            };
-        kept = λ owner a other o.
-            inl (subst (λ (bs : List Segment). owns bs owner a ≡ true) (sym there)
-            ((owns-true (inserted got k.blocks) owner a).1 ((Owns-inserted got k.blocks owner a).1 (inr ((owns-true k.blocks owner a).0 o)))));
-        handed = λ owner a other o.
-            let now = (Owns-inserted got k.blocks owner a).0 ((owns-true (inserted got k.blocks) owner a).0 (subst (λ (bs : List Segment). owns bs owner a ≡ true) there o)) in
-            elim now [
-              | inl new ↦ absurd (other (sym new.0))
-              | inr old ↦ inl ((owns-true k.blocks owner a).1 old)
-            ];
+            let new = out.given (i + ram_start) (omega (arith, within.0, out.from)) (omega (arith, within.1, out.from)) in
+            record { cleared = zeros_there k.processor.memory place n i fits within.0 within.1; own = new.0; unowned = new.1 };
+        kept = λ owner a other o. inl (out.kept owner a o);
+        handed = λ owner a other o. elim (out.old owner a o) [ inl new ↦ absurd (other new.0) | inr old ↦ inl old ];
         hand = inl refl;
         rest = refl;
       }

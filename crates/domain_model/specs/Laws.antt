@@ -1,6 +1,6 @@
 -- What holds of every turn of every run.
-use Rattle.std.specs.Prelude.{◌≡◌, ◌≢◌, ◌⊎◌, ◌↔◌, ℕ, ◌+◌, ◌<◌, ◌≤◌, List, [], Option, Some, None, Contains, Bool, true, false, slice_index, ⊤}
-use Rattle.mote_base.specs.Messages.{in_order, unnamed}
+use Rattle.std.specs.Prelude.{◌≡◌, ◌≢◌, ◌⊎◌, ◌↔◌, ℕ, ◌+◌, ◌<◌, ◌≤◌, List, [], Option, Some, None, Contains, Bool, true, false, slice_index, drop, ⊤}
+use Rattle.mote_base.specs.Messages.{Lists, in_order, appended, unnamed}
 use Rattle.avr_isa.specs.declared.instruction.Instr.{Instr}
 use Rattle.avr_machine.specs.Processor.{Processor as CountingProcessor}
 use Rattle.avr_machine.specs.Effect.{effect}
@@ -13,13 +13,13 @@ use Rattle.mote_layout.specs.Blocks.{AreFree, starting_at, owns}
 use Rattle.mote_layout.specs.Parcels.{Payload}
 use Rattle.mote_layout.specs.declared.segment.Segment.{Segment}
 use Rattle.domain_model.specs.declared.handler.Running.{Running}
-use Rattle.domain_model.specs.declared.event.Choice.TheVariants.{Acts}
+use Rattle.domain_model.specs.declared.event.Choice.TheVariants.{Hears, Acts}
 use Rattle.domain_model.specs.declared.event.Turned.TheVariants.{More}
 use Rattle.domain_model.specs.declared.fault.FaultNote.{FaultNote}
 use Rattle.domain_model.specs.declared.fault.UnitEnd.TheVariants.{Fault}
 use Rattle.domain_model.specs.declared.line.TraceLine.{TraceLine}
 use Rattle.domain_model.specs.declared.line.TraceLine.TheVariants as line
-use Rattle.domain_model.specs.State.{Processor, Message, Loaded, KernelState, RunnerState, State, at_counter, without_counter, seats}
+use Rattle.domain_model.specs.State.{Processor, Message, radio, Loaded, KernelState, RunnerState, State, at_counter, without_counter, seats}
 use Rattle.domain_model.specs.Act.{act, plain_effect, passes, bank}
 use Rattle.domain_model.specs.Free.{ends_handler, enters_kernel}
 use Rattle.domain_model.specs.Modules.{in_use, without_domain}
@@ -116,6 +116,32 @@ UnloadsAlone s t lines =
     (time : ℕ) (m : Loaded) → Contains lines (line.Unload time m.face.id) → Contains s.kernel.modules m →
     KeepsTheRest s.kernel m.face.id m.domain t.kernel × KeepsOtherUnits s.runner m.domain t.runner
 
+-- Interrupts.
+
+-- An address of a block that nobody had, and that is the kernel's now.
+pub record IsNewlyKernels (k new : KernelState) (address : ℕ) : Type 0 where
+  pub free : (owner : ℕ) → owns k.blocks owner address ≡ false
+  pub kernels : owns new.blocks kernel address ≡ true
+
+-- One message more waits, in the low list and from the radio, or none more.
+pub data IsOneMore (old : Lists Message) : Lists Message → Type 0 where
+  none_more : IsOneMore old old
+  one_more : (m : Message) → m.from ≡ radio → m.high ≡ false → IsOneMore old (appended false m old)
+
+-- What a packet leaves that comes, in a handler and outside: all registers, SREG and SP; every owner's blocks, with the bytes in them; what
+-- waits; and all else but the packets that are to come. It brings one message at most, and a block of the kernel's that nobody had.
+pub record Interrupted (s t : State) : Type 0 where
+  pub processor : t.kernel.processor ≡ record s.kernel.processor { memory = t.kernel.processor.memory }
+  pub memory : (i : ℕ) → slice_index t.kernel.processor.memory i ≢ slice_index s.kernel.processor.memory i → ((kernel_bytes_start ≤ i + ram_start) × (i + ram_start ≤ kernel_bytes_end)) ⊎ IsNewlyKernels s.kernel t.kernel (i + ram_start)
+  pub kept : (owner address : ℕ) → owns s.kernel.blocks owner address ≡ true → owns t.kernel.blocks owner address ≡ true
+  pub new : (owner address : ℕ) → owns t.kernel.blocks owner address ≡ true → (owns s.kernel.blocks owner address ≡ true) ⊎ ((owner ≡ kernel) × IsNewlyKernels s.kernel t.kernel address)
+  pub queues : IsOneMore s.kernel.queues t.kernel.queues
+  pub kernel_rest : t.kernel ≡ record s.kernel { processor = t.kernel.processor; blocks = t.kernel.blocks; queues = t.kernel.queues }
+  pub rest : t ≡ record s { kernel = t.kernel; packets = drop 1 s.packets }
+
+abbrev pub InterruptsAlone : State → State → Type 0
+InterruptsAlone s t = choice s ≡ Hears → Interrupted s t
+
 -- Holders.
 
 -- A segment is the one in which a block lies.
@@ -145,6 +171,7 @@ pub record LawfulTurn (s t : State) (lines : List TraceLine) : Type 0 where
   pub crosses : Crosses s t
   pub unloads : UnloadsCleanly s t lines
   pub unloads_alone : UnloadsAlone s t lines
+  pub interrupts : InterruptsAlone s t
 
 abbrev pub LawfulRunFrom : State → List TraceLine → Type 0
 LawfulRunFrom s lines = RunBy LawfulTurn s lines

@@ -35,7 +35,7 @@ pub fn turns_come_as_the_state_says()
 
 /// Law: every turn from a good state keeps it good, is confined to what is the running domain's and to no unit, changes
 /// the running domain only by a dispatch or the handler's end, unloads cleanly and leaves the other modules and their
-/// units as they were; and so does every turn of a run from a good state.
+/// units as they were, and leaves all else as it was where a packet comes; and so does every turn of a run from a good state.
 pub fn every_turn_is_lawful()
     ensures turns { TurnsAreLawful }
     ensures runs { RunsAreLawful }
