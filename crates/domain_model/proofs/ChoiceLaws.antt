@@ -109,11 +109,11 @@ left_by s run live no_packet inside left =
     left_to s (Some run) live no_packet inside ∙ ap (λ (b : Bool). choose_inside b run s) (ne_eqb s.total s.unit_limit left)
 
 -- nothing is to come
-idle_by : (s : State) (packets : List Packet) (events : List LoaderEvent) → s.ended ≡ More → s.kernel.running ≡ None → front s.kernel.queues ≡ None → s.packets ≡ packets → s.events ≡ events → packets ≡ [] → events ≡ [] → choice s ≡ Idles
-idle_by s packets events live outside waiting are were no_packets no_events =
-    message_by s None live (subst (λ (ps : List Packet). NoneDue (packet_times ps) s.kernel.clock) (sym (are ∙ no_packets)) tt) outside
-    (subst (λ (es : List LoaderEvent). NoneDue (event_times es) s.kernel.clock) (sym (were ∙ no_events)) tt) waiting
-    ∙ ap (λ (ps : List Packet). choose_time (next_time ps s.events)) (are ∙ no_packets) ∙ ap (λ (es : List LoaderEvent). choose_time (next_time [] es)) (were ∙ no_events)
+idle_by : (s : State) → s.ended ≡ More → s.kernel.running ≡ None → front s.kernel.queues ≡ None → s.packets ≡ [] → s.events ≡ [] → choice s ≡ Idles
+idle_by s live outside waiting no_packets no_events =
+    message_by s None live (subst (λ (ps : List Packet). NoneDue (packet_times ps) s.kernel.clock) (sym no_packets) tt) outside
+    (subst (λ (es : List LoaderEvent). NoneDue (event_times es) s.kernel.clock) (sym no_events) tt) waiting
+    ∙ ap (λ (ps : List Packet). choose_time (next_time ps s.events)) no_packets ∙ ap (λ (es : List LoaderEvent). choose_time (next_time [] es)) no_events
 
 pub chosen_by : (c : Choice) (s : State) → Facts c s → choice s ≡ c
 chosen_by Stays s f = stays_by s s.ended f
@@ -124,7 +124,7 @@ chosen_by Dispatches s f = message_by s (Some f.message) f.live f.no_packet f.ou
 chosen_by (Jumps time) s f =
     let none = none_before s.packets s.events s.kernel.clock time f.next f.later in
     message_by s None f.live none.0 f.outside none.1 f.none_waits ∙ ap (λ (o : Option ℕ). choose_time o) f.next
-chosen_by Idles s f = idle_by s s.packets s.events f.live f.outside f.none_waits refl refl f.none.0 f.none.1
+chosen_by Idles s f = idle_by s f.live f.outside f.none_waits f.none.0 f.none.1
 chosen_by Budgets s f =
     left_to s (Some f.run) f.live f.no_packet f.running ∙ ap (λ (b : Bool). choose_inside b f.run s) (eq-eqb s.total s.unit_limit f.total)
 chosen_by (Watches run) s f =
