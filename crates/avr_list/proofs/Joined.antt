@@ -19,13 +19,13 @@ use Rattle.avr_list.proofs.Said.{Operands, nothing, one, two, joined}
 use Rattle.avr_list.proofs.Ranged.{AreRanged, IsRanged, is_free}
 
 -- the character is not in the list
-abbrev IsFree : ℕ → List ℕ → Type 0
+abbrev pub IsFree : ℕ → List ℕ → Type 0
 IsFree c xs = AllByRecursion (λ x. x ≢ c) xs
 
 unequal : (x c : ℕ) → not (x == c) ≡ true → x ≢ c
 unequal x c h same = grind (arith, nat_tests)
 
-free_from : (c : ℕ) (xs : List ℕ) → is_free c xs ≡ true → IsFree c xs
+pub free_from : (c : ℕ) (xs : List ℕ) → is_free c xs ≡ true → IsFree c xs
 free_from c [] h = tt
 free_from c (x ∷ xs) h = let parts = and_parts (not (x == c)) (is_free c xs) h in (unequal x c parts.0, free_from c xs parts.1)
 
@@ -74,7 +74,7 @@ glyph_free d small same =
     let other : digit_value 44 ≡ d = ap digit_value (sym same) ∙ value in
     omega (arith, other)
 
-operand_free : (a : Operand) → IsRanged a → IsFree 44 (operand_text a)
+pub operand_free : (a : Operand) → IsRanged a → IsFree 44 (operand_text a)
 operand_free (Register n) r = (λ e. omega arith, digits_free 44 (decimal n) (omega arith) (is_decimal n r).digits)
 operand_free (Number n) r = digits_free 44 (decimal n) (omega arith) (is_decimal n r).digits
 operand_free (At X) r = (λ e. omega arith, tt)
@@ -184,12 +184,12 @@ operand_told : (a b : Operand) → IsRanged a → IsRanged b → operand_text a 
 operand_told a b r s e = sym (read_back a r) ∙ ap operand_by e ∙ read_back b s
 
 -- the same text, from the front on
-abbrev flat : List ℕ → Operands → List ℕ
+abbrev pub flat : List ℕ → Operands → List ℕ
 flat name nothing = name
 flat name (one a) = name ++ (32 ∷ operand_text a)
 flat name (two a b) = name ++ (32 ∷ (operand_text a ++ (44 ∷ operand_text b)))
 
-joined_flat : (name : List ℕ) (p : Operands) → joined name p ≡ flat name p
+pub joined_flat : (name : List ℕ) (p : Operands) → joined name p ≡ flat name p
 joined_flat name nothing = refl
 joined_flat name (one a) = simp append_assoc
 joined_flat name (two a b) = simp append_assoc

@@ -29,7 +29,7 @@ pub fn list_line(number: u16, place: u16, unit: &Unit, line: &mut Line)
 }
 
 /// Adds what a unit is.
-fn add_unit(line: &mut Line, unit: &Unit)
+pub fn add_unit(line: &mut Line, unit: &Unit)
     requires room { array_vec_len line.old + unit_width ≤ line_bytes }
     requires kind { IsOfKind unit.now }
     ensures items { line.new.items ≡ line.old.items ++ unit_text unit.now }

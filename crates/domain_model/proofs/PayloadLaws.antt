@@ -1,8 +1,8 @@
 -- The kernel's blocks stay exactly the payloads, each once: what each change of the blocks and of the messages does to them.
-use Rattle.std.proofs.Common.{◌≡◌, ◌≢◌, ℕ, ◌+◌, ◌*◌, ◌<◌, ◌≤◌, ◌∙◌, refl, sym, ap, subst, arith, inl, inr, eqb, cond, not, ◌==◌, ◌&&◌, suc, Bool, true, false, List, [], ◌∷◌, ◌++◌, length, filter, drop, Option, Some, None, IsSomeAnd, eq-eqb, nat_lt, if◌then◌else◌}
+use Rattle.std.proofs.Common.{◌≡◌, ◌≢◌, ℕ, ◌+◌, ◌*◌, ◌≤◌, ◌∙◌, refl, sym, ap, subst, arith, inl, inr, eqb, not, ◌==◌, ◌&&◌, suc, Bool, true, false, List, [], ◌∷◌, ◌++◌, length, filter, drop, Option, Some, None, IsSomeAnd, nat_lt, if◌then◌else◌}
 use Rattle.std.specs.List.{AllByRecursion}
 use Rattle.std.proofs.lemmas.Bool.{cases_Bool, cond-true, cond-false, cond_both, eqb-true, ne_eqb, lt-ltb}
-use Rattle.std.proofs.lemmas.Option.{same_Some, none-some}
+use Rattle.std.proofs.lemmas.Option.{same_Some}
 use Rattle.mote_base.specs.Messages.{Lists, in_order, appended, front, without_front, names, without_named, unnamed}
 use Rattle.mote_layout.specs.Memory.{kernel, block_bytes}
 use Rattle.mote_layout.specs.Blocks.{AreBlocks, starting_at, without, without_owner}
@@ -11,7 +11,7 @@ use Rattle.mote_layout.specs.declared.segment.Segment.{Segment}
 use Rattle.mote_layout.proofs.BlockLists.{AreBlocks-without}
 use Rattle.mote_layout.proofs.Entries.{naming-same, without_loses}
 use Rattle.domain_model.specs.State.{Message}
-use Rattle.domain_model.specs.Payloads.{load_of, without_load, without_payloads, naming_of, naming_in, namings, IsHeld, HasHeld, HoldsPayloads}
+use Rattle.domain_model.specs.Payloads.{load_of, without_load, without_payloads, naming_of, naming_in, IsHeld, HasHeld, HoldsPayloads}
 use Rattle.domain_model.proofs.Kept.{each_weaker, each_filter, each_push, each_either}
 
 -- What is held stays so where each parcel stays one.

@@ -7,7 +7,7 @@ use Rattle.mote_layout.specs.Limits.{image_limit, images_limit, script_limit, un
 use Rattle.domain_model.specs.declared.request.Kind.{Kind}
 use Rattle.domain_model.specs.declared.request.Kind.TheVariants as kinds
 use Rattle.domain_model.specs.declared.request.Tool.{Tool}
-use Rattle.domain_model.specs.declared.request.Tool.TheVariants.{Listing, Upgrade, Seal}
+use Rattle.domain_model.specs.declared.request.Tool.TheVariants.{Listing, Upgrade, Seal, Verdict, Assembly, Source}
 use Rattle.domain_model.specs.declared.request.Setting.{Setting}
 use Rattle.domain_model.specs.declared.request.Setting.TheVariants.{Units, Handler}
 use Rattle.domain_model.specs.declared.request.Place.{Place}
@@ -23,11 +23,16 @@ abbrev pub takes : Kind → ℕ → Bool
 takes (kinds.Run units handler) count = nat_le 2 count && nat_le count (1 + images_limit)
 takes (kinds.Tool tool) count = count == 1
 
+-- The most bytes of a tool's file: those of an image, and of the text of a module those of a script.
+abbrev pub tool_limit : Tool → ℕ
+tool_limit Assembly = script_limit
+tool_limit _ = image_limit
+
 -- The most bytes of the command's file with that number, counted from 0: 1,048,576 of a script and 65,536
 -- of an image.
 abbrev pub limit_of : Kind → ℕ → ℕ
 limit_of (kinds.Run units handler) number = if number == 0 then script_limit else image_limit
-limit_of (kinds.Tool tool) number = image_limit
+limit_of (kinds.Tool tool) number = tool_limit tool
 
 -- The limits of a run are in their ranges.
 abbrev pub IsWithinLimits : Kind → Type 0
@@ -39,7 +44,11 @@ abbrev pub tool_of : List ℕ → Option Tool
 tool_of verb =
     if bytes_eq verb (codes "list")
     then Some Listing
-    else (if bytes_eq verb (codes "upgrade") then Some Upgrade else (if bytes_eq verb (codes "seal") then Some Seal else None))
+    else (if bytes_eq verb (codes "upgrade") then Some Upgrade
+    else (if bytes_eq verb (codes "seal") then Some Seal
+    else (if bytes_eq verb (codes "verify") then Some Verdict
+    else (if bytes_eq verb (codes "asm") then Some Assembly
+    else (if bytes_eq verb (codes "source") then Some Source else None)))))
 
 abbrev pub without_limits : Option Tool → Option ℕ → Option ℕ → Option Kind
 without_limits (Some tool) None None = Some (kinds.Tool tool)

@@ -19,6 +19,12 @@ pub enum Tool {
     Upgrade,
     /// The image, sealed.
     Seal,
+    /// The verdict on the words of a rewritten image.
+    Verdict,
+    /// The image of a module's text.
+    Assembly,
+    /// The text of an image.
+    Source,
 }
 
 /// A limit of a run that an option gives.

@@ -1,5 +1,5 @@
 -- Emitted words are determined, and spell.
-use Rattle.std.proofs.Common.{◌≡◌, ◌∙◌, ℕ, ◌<◌, ◌^◌, Bool, List, refl, sym, ap, subst}
+use Rattle.std.proofs.Common.{◌≡◌, ◌∙◌, ℕ, Bool, List, sym, ap, subst}
 use Rattle.std.specs.List.{AllByRecursion, Contains, flat_map}
 use Rattle.avr_isa.specs.declared.instruction.Instr.{Instr}
 use Rattle.unit_code.specs.declared.unit.Unit.{Unit}
@@ -19,7 +19,8 @@ emitted_spell us words marks starts sealed proper h entered =
     record {
       lays = subst P (sym h.places) (emitted_words_spell words sealed us h.shapes proper (chosen_shapes us h.shapes proper.targets h.chosen) (chosen_read us h.shapes h.chosen) h.templates);
       entered = entered;
-      proper = proper }
+      proper = proper;
+    }
 
 -- the instructions of the units in these shapes
 abbrev pub instructions_of : List Unit → List Shape → List Instr
@@ -29,6 +30,7 @@ pub one_emission : (us : List Unit) (words others starts places : List ℕ) → 
 one_emission us words others starts places h k =
     let same : h.shapes ≡ k.shapes = one_choice us h.shapes k.shapes h.chosen k.chosen in
     let P : List Instr → Type 0 = λ is. AreWordsOf is others in
-    let is : k.templates.instructions ≡ h.templates.instructions = k.templates.templates ∙ ap (instructions_of us) (sym same) ∙ sym h.templates.templates in
-    (one_wording h.templates.instructions words others h.small k.small h.templates.spelled (subst P is k.templates.spelled),
-     h.places ∙ ap (starts_of us) same ∙ sym k.places)
+    let is : k.templates.instructions ≡ h.templates.instructions = k.templates.templates ∙ ap (instructions_of us) (sym same) ∙ sym h.templates.templates in (
+      one_wording h.templates.instructions words others h.small k.small h.templates.spelled (subst P is k.templates.spelled),
+      h.places ∙ ap (starts_of us) same ∙ sym k.places,
+    )

@@ -1,6 +1,5 @@
 -- The words at which a rewritten image is entered.
-use Rattle.std.proofs.Common.{◌≡◌, ◌∙◌, ℕ, zero, suc, ◌+◌, ◌<◌, ◌≤◌, List, [], ◌∷◌, ◌++◌, length, drop, get_or, map, refl, sym, ap, ap₂, subst, arith, append_assoc}
-use Rattle.std.specs.Prelude.{⊤}
+use Rattle.std.proofs.Common.{◌≡◌, ◌∙◌, ℕ, suc, ◌+◌, ◌<◌, List, [], ◌∷◌, ◌++◌, length, drop, get_or, map, refl, sym, ap, ap₂, arith, append_assoc}
 use Rattle.std.specs.List.{AllByRecursion, Contains}
 use Rattle.std.proofs.lemmas.List.{append-nil, drop_all, drop_more, length-map}
 use Rattle.std.proofs.lemmas.List.Elements.{Contains-get_or}
@@ -29,14 +28,15 @@ moved_provided (p ∷ ps) (w ∷ ws) least small (a, b, c, d, e) = (a, b, c, sma
 
 pub face_with_entries : (f : Face) (ws : List ℕ) → length ws ≡ length f.provided.items → AllByRecursion IsWord ws → FaceRules f → FaceRules (with_entries f ws)
 face_with_entries f ws e small h = record {
-    id = h.id;
-    provided_count = omega (arith, moved-length f.provided.items ws e, h.provided_count);
-    subscribed_count = h.subscribed_count;
-    provided = moved_provided f.provided.items ws 0 small h.provided;
-    subscribed = h.subscribed }
+  id = h.id;
+  provided_count = omega (arith, moved-length f.provided.items ws e, h.provided_count);
+  subscribed_count = h.subscribed_count;
+  provided = moved_provided f.provided.items ws 0 small h.provided;
+  subscribed = h.subscribed;
+}
 
 pub moved_next : (ps : List Provided) (ws : List ℕ) (done : List Provided) (p : Provided) (i : ℕ) → length ws ≡ length ps → i < length ws → p ≡ get_or ps i p
-  → done ++ moved (drop i ps) (drop i ws) ≡ moved ps ws → (done ++ record p { word = get_or ws i 0 } ∷ []) ++ moved (drop (i + 1) ps) (drop (i + 1) ws) ≡ moved ps ws
+    → done ++ moved (drop i ps) (drop i ws) ≡ moved ps ws → (done ++ record p { word = get_or ws i 0 } ∷ []) ++ moved (drop (i + 1) ps) (drop (i + 1) ws) ≡ moved ps ws
 moved_next ps ws done p i e h at was =
     let inside : i < length ps = omega (arith, e, h) in
     let ps_is : drop i ps ≡ p ∷ drop (i + 1) ps = drop_more ps i p inside ∙ ap (λ (q : Provided). q ∷ drop (i + 1) ps) (sym at) in

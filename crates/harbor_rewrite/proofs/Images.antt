@@ -1,5 +1,5 @@
 -- Contents of images.
-use Rattle.std.proofs.Common.{◌≡◌, ◌∙◌, ℕ, ◌<◌, ◌≤◌, Bool, true, false, List, [], ◌∷◌, length, map, refl, sym, ap, subst, arith}
+use Rattle.std.proofs.Common.{◌≡◌, ◌∙◌, ℕ, ◌<◌, Bool, true, false, List, [], ◌∷◌, length, map, refl, sym, subst, arith}
 use Rattle.std.specs.List.{AllByRecursion, Contains}
 use Rattle.std.proofs.lemmas.List.{length-map}
 use Rattle.unit_code.specs.Listing.{FitsTogether, Listing}
@@ -19,7 +19,7 @@ no_items (x ∷ xs) e = absurd (omega (arith, e))
 
 -- an image of the first version has neither seal nor constants
 pub first_is : (c : Contents) (f : Face) (handler : ℕ) (words : List ℕ) → Rules c → c.version ≡ first_version
-  → record { face = f; version = first_version; rewritten = true; sealed = false; state_size = c.state_size; handler = handler; code = words; constants = [] }
+    → record { face = f; version = first_version; rewritten = true; sealed = false; state_size = c.state_size; handler = handler; code = words; constants = [] }
     ≡ record c { face = f; handler = handler; rewritten = true; code = words }
 first_is c f handler words h e =
     let plain = h.plain e in
@@ -31,7 +31,7 @@ sealed_as_before c [] words = refl
 sealed_as_before c (handler ∷ entries) words = refl
 
 pub spells_original : (c : Contents) (list : Listing) (words starts file : List ℕ) → list ≡ listing_of c → FitsTogether list (marks_of c) → IsProper list.units c.sealed
-  → AreEmitted list.units words starts → length starts ≡ length list.units → Image file (with_code (entered_at c (map (start_of starts) list.marks)) words) → SpellsOriginal c file
+    → AreEmitted list.units words starts → length starts ≡ length list.units → Image file (with_code (entered_at c (map (start_of starts) list.marks)) words) → SpellsOriginal c file
 spells_original c list words starts file e fits proper emitted placed image =
     let entries = map (start_of starts) list.marks in
     let r = with_code (entered_at c entries) words in

@@ -1,14 +1,13 @@
 -- The loop that joins templates, by what is left of the units, and how many words they have.
-use Rattle.std.proofs.Common.{◌≡◌, ◌∙◌, ℕ, zero, suc, ◌+◌, ◌<◌, ◌≤◌, List, [], ◌∷◌, ◌++◌, length, drop, Option, Some, refl, sym, ap, ap₂, subst, arith, append_assoc, slice_get}
+use Rattle.std.proofs.Common.{◌≡◌, ◌∙◌, ℕ, zero, suc, ◌+◌, ◌<◌, ◌≤◌, List, [], ◌∷◌, ◌++◌, length, drop, Some, refl, sym, ap, ap₂, subst, arith, append_assoc, slice_get}
 use Rattle.std.specs.List.{AllByRecursion, flat_map}
 use Rattle.std.proofs.lemmas.List.{append-nil, drop_all, length-drop}
 use Rattle.std.proofs.lemmas.List.Sums.{sum_by-cons}
 use Rattle.avr_isa.specs.declared.instruction.Instr.{Instr}
-use Rattle.unit_code.specs.declared.form.Form.{Form}
 use Rattle.unit_code.specs.declared.unit.Unit.{Unit}
 use Rattle.unit_code.specs.declared.unit.Shape.{Shape}
 use Rattle.unit_code.specs.declared.unit.Shape.TheVariants.{Long}
-use Rattle.unit_code.specs.Beside.{AreWordsOf, form_words, words_in}
+use Rattle.unit_code.specs.Beside.{AreWordsOf, words_in}
 use Rattle.unit_code.specs.Ends.{long_length}
 use Rattle.unit_code.specs.Lengths.{instruction_length, spelled_length}
 use Rattle.unit_code.specs.Proper.{IsOfKind}
@@ -36,8 +35,8 @@ found_at (x ∷ xs) zero h = (x, refl, refl)
 found_at (x ∷ xs) (suc i) h = found_at xs i (omega (arith, h))
 
 pub joined_next : (us : List Unit) (ss : List Shape) (starts words new t : List ℕ) (i : ℕ) → AreShapesOf us ss → starts ≡ starts_of us ss → i < length us
-  → ((u : Unit) (s : Shape) → slice_get us i ≡ Some u → slice_get ss i ≡ Some s → AreWordsOf (template (form_of starts i (start_of starts i) u s)) t)
-  → new ≡ words ++ t → HaveJoined us ss starts words i → HaveJoined us ss starts new (i + 1)
+    → ((u : Unit) (s : Shape) → slice_get us i ≡ Some u → slice_get ss i ≡ Some s → AreWordsOf (template (form_of starts i (start_of starts i) u s)) t)
+    → new ≡ words ++ t → HaveJoined us ss starts words i → HaveJoined us ss starts new (i + 1)
 joined_next us ss starts words new t i shapes e h spelled at was =
     let many : length ss ≡ length us = same_count (starts_of us ss) 0 us ss shapes in
     let unit = found_at us i h in
@@ -45,14 +44,16 @@ joined_next us ss starts words new t i shapes e h spelled at was =
     let more : suc i ≡ i + 1 = omega arith in
     let us_is : drop i us ≡ unit.0 ∷ drop (i + 1) us = unit.2 ∙ ap (λ k. unit.0 ∷ drop k us) more in
     let ss_is : drop i ss ≡ shape.0 ∷ drop (i + 1) ss = shape.2 ∙ ap (λ k. shape.0 ∷ drop k ss) more in
-    record { rest = λ ws k.
-      let P : List Instr → Type 0 = λ is. AreWordsOf is (t ++ ws) in
-      let Q : List ℕ → Type 0 = λ l. AreWordsOf (instructions_from starts 0 us ss) l in
-      let first = spelled unit.0 shape.0 unit.1 shape.1 in
-      let both = words_joined (template (form_of starts i (start_of starts i) unit.0 shape.0)) (instructions_from starts (i + 1) (drop (i + 1) us) (drop (i + 1) ss)) t ws first k in
-      let here : AreWordsOf (instructions_from starts i (drop i us) (drop i ss)) (t ++ ws) =
-        subst P (sym (ap₂ (λ (xs : List Unit) (ys : List Shape). instructions_from starts i xs ys) us_is ss_is)) both in
-      subst Q (sym (append_assoc words t ws) ∙ ap (λ (l : List ℕ). l ++ ws) (sym at)) (was.rest (t ++ ws) here) }
+    record {
+      rest = λ ws k.
+          let P : List Instr → Type 0 = λ is. AreWordsOf is (t ++ ws) in
+          let Q : List ℕ → Type 0 = λ l. AreWordsOf (instructions_from starts 0 us ss) l in
+          let first = spelled unit.0 shape.0 unit.1 shape.1 in
+          let both = words_joined (template (form_of starts i (start_of starts i) unit.0 shape.0)) (instructions_from starts (i + 1) (drop (i + 1) us) (drop (i + 1) ss)) t ws first k in
+          let here : AreWordsOf (instructions_from starts i (drop i us) (drop i ss)) (t ++ ws) =
+          subst P (sym (ap₂ (λ (xs : List Unit) (ys : List Shape). instructions_from starts i xs ys) us_is ss_is)) both in
+          subst Q (sym (append_assoc words t ws) ∙ ap (λ (l : List ℕ). l ++ ws) (sym at)) (was.rest (t ++ ws) here);
+    }
 
 pub joined_all : (us : List Unit) (ss : List Shape) (starts words : List ℕ) (i : ℕ) → starts ≡ starts_of us ss → i ≡ length us → HaveJoined us ss starts words i → AreTemplatesOf us ss words
 joined_all us ss starts words i e end was =
@@ -63,7 +64,8 @@ joined_all us ss starts words i e end was =
     record {
       instructions = instructions_from (starts_of us ss) 0 us ss;
       spelled = subst R e (subst Q (append-nil words) (was.rest [] (subst P (sym none) refl)));
-      templates = refl }
+      templates = refl;
+    }
 
 at_most : (is : List Instr) (ws : List ℕ) → AreWordsOf is ws → length ws ≤ words_in is
 at_most [] ws h = omega (arith, ap length h)

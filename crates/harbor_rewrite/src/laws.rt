@@ -1,11 +1,16 @@
-//! Laws of rewritten words, over the definitions alone.
+//! Laws of rewritten words.
 
 ghost use Rattle.std.specs.Prelude.{◌≡◌, ℕ, Bool, List};
+ghost use Rattle.harbor_short.specs.Rounds.{AreChosen};
 ghost use Rattle.std.specs.List.{AllByRecursion, Contains};
 ghost use Rattle.unit_code.specs.declared.unit.Unit.{Unit};
 ghost use Rattle.unit_code.specs.Proper.{IsProper};
-ghost use Rattle.unit_code.specs.Spelling.{Spells};
+ghost use Rattle.unit_code.specs.Spelling.{Spells, starts_of};
 ghost use Rattle.harbor_rewrite.specs.Emit.{AreEmitted};
+
+use crate::bank::are_words;
+use harbor_spell::{Template, spell_unit};
+use unit_code::{Shape, Unit};
 
 /// The words that the rewriter gives to a proper list of units spell it, wherever they are entered at starts.
 pub fn emitted_spell()
@@ -19,3 +24,18 @@ pub fn one_emission()
     ensures { (units : List Unit) (words others starts places : List ℕ) → AreEmitted units words starts
         → AreEmitted units others places → (words ≡ others) × (starts ≡ places) }
 {}
+
+/// A proper list of units, in the shapes to which the rounds come, has words. This law has a body, which spells the units one by one and
+/// takes no memory: that an instruction has words is known from `encode` alone.
+pub fn words_exist(units: &[Unit], starts: &[u16], shapes: &[Shape])
+    requires proper { (sealed : Bool) × IsProper units.now sealed }
+    requires chosen { AreChosen units.now shapes.now }
+    requires starts { starts.now ≡ starts_of units.now shapes.now }
+    ensures { (words : List ℕ) × AreEmitted units.now words starts.now }
+{
+    let mut template = Template::new();
+    for i in 0..units.len() {
+        spell_unit(units, starts, shapes, i, &mut template);
+        are_words(&template);
+    }
+}

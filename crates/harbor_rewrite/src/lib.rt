@@ -2,8 +2,7 @@
 //!
 //! [`bank_code`] gives the words of units: their templates, one after the other, in the shapes to which the rounds of
 //! `harbor_short` come. [`rewrite`] makes a whole image file of an image: its words are those of its units, and it is entered at
-//! the starts of their templates. That such words exist, are determined and spell the units is a law over the
-//! definitions alone.
+//! the starts of their templates. That such words exist, are determined and spell the units are laws.
 #![tactic(auto)]
 
 mod bank;
@@ -14,4 +13,4 @@ mod laws;
 pub use bank::bank_code;
 pub use error::RewriteError;
 pub use image::rewrite;
-pub use laws::{emitted_spell, one_emission};
+pub use laws::{emitted_spell, one_emission, words_exist};

@@ -50,10 +50,12 @@ fn is_made(
     if images.len() != 7 || events.len() != 10_007 {
         return Ok(false);
     }
-    Ok(drawn(&images[0]) == Some(modules[0])
-        && drawn(&images[6]) == Some(modules[1])
-        && is_packet(&events[7], first)
-        && is_packet(&events[10_006], last))
+    Ok(
+        drawn(&images[0]) == Some(modules[0])
+            && drawn(&images[6]) == Some(modules[1])
+            && is_packet(&events[7], first)
+            && is_packet(&events[10_006], last),
+    )
 }
 
 #[test]

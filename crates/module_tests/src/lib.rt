@@ -4,6 +4,8 @@
 #[cfg(test)]
 mod bundles;
 #[cfg(test)]
+mod assembler;
+#[cfg(test)]
 mod image;
 #[cfg(test)]
 mod lines;

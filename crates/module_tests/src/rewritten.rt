@@ -1,11 +1,13 @@
 //! Rewritten images, worked out by hand from the templates.
 
-use harbor_rewrite::{RewriteError, rewrite};
+use crate::units::bytes_of;
+use harbor_rewrite::{RewriteError, bank_code, rewrite};
 use module_image::parse;
+use mote_base::Words;
 use std::alloc::{AllocError, Global};
 use std::process::Abort;
 use std::test::Fail;
-use unit_code::CodeError;
+use unit_code::{CodeError, units};
 
 /// The fields before the code, the code, and the bytes behind it.
 fn file_of(
@@ -112,4 +114,24 @@ fn code_without_units(rt: HostRuntime) {
     let file = *b"SOSM\x01\x01\x00\x00\x00\x01\x00\x00\x00\x01\x00\x08\x95";
     let refused = RewriteError::Code(CodeError::Entry(1));
     assert_eq!(rt; refusal(rt.alloc(), &file), Some(refused));
+}
+
+#[test]
+fn a_bank_of_branches(rt: HostRuntime) -> Result<(), Fail> {
+    // Spelled long they have 2,048 words; short, a word each, and two for the return.
+    let mut words = Vec::new(rt.alloc());
+    for _ in 0..1023 {
+        words.push(0xF001)?;
+    }
+    words.push(0x9508)?;
+    let bytes = bytes_of(rt.alloc(), &words)?;
+    let code = Words::new(&bytes).expect(&rt, "two bytes a word");
+    assert!(rt; code.len() <= 65535);
+    let list = units(rt.alloc(), &code, &[0], false)?;
+    let bank = bank_code(rt.alloc(), &list).expect(&rt, "memory");
+    assert_eq!(rt; bank.words.len(), 1025);
+    assert_eq!(rt; bank.words.last(), Some(&0xF096));
+    assert_eq!(rt; bank.starts.last(), Some(&1023));
+    assert_eq!(rt; bank.units.len(), 1024);
+    Ok(())
 }

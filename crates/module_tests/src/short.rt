@@ -10,6 +10,7 @@ use unit_code::Shape::{Long, Short};
 use unit_code::{CodeError, Shape, units};
 
 const NOP: u16 = 0x0000;
+
 const RET: u16 = 0x9508;
 
 /// Skips the next instruction where bit 0 of R16 is 1.
@@ -67,7 +68,11 @@ fn branches_at_the_ends_of_their_reach(rt: HostRuntime) -> Result<(), Fail> {
     for (first, nops, last, branch, shape) in &rows {
         let words = around(rt.alloc(), first, NOP, *nops, last)?;
         let shapes = shapes_of(&rt, rt.alloc(), &words, false)?;
-        assert_eq!(rt; shapes.get(*branch), Some(shape), "{first:?} {nops} {last:?}");
+        assert_eq!(rt;
+            shapes.get(*branch),
+            Some(shape),
+            "{first:?} {nops} {last:?}"
+        );
     }
     Ok(())
 }
@@ -129,7 +134,10 @@ fn a_bank_of_branches(rt: HostRuntime) -> Result<(), Fail> {
     // Spelled long, 1,023 branches and a return have 2,048 words.
     let words = around(rt.alloc(), &[], 0xF001, 1023, &[RET])?;
     let shapes = shapes_of(&rt, rt.alloc(), &words, false)?;
-    assert_eq!(rt; shapes.iter().filter(|shape| **shape == Short).count(), 1023);
+    assert_eq!(rt;
+        shapes.iter().filter(|shape| **shape == Short).count(),
+        1023
+    );
     let words = around(rt.alloc(), &[], 0xF001, 1024, &[RET])?;
     let refusal = shapes_of(&rt, rt.alloc(), &words, false).err();
     assert_eq!(rt; refusal, Some(CodeError::TooLong(2050)));

@@ -13,6 +13,7 @@ use std::test::Fail;
 use unit_code::{CodeError, Shape, Unit, spelled_len, units};
 
 /// The words of the units of original words, each template in its long shape.
+#[tactic(auto, using(crate::proofs::Shapes::long_shapes))]
 fn long_spelling(
     rt: &impl Abort,
     alloc: Global,
@@ -60,7 +61,9 @@ fn starts(
     for n in 0..units.len() {
         starts.push(place)?;
         let words = spelled_len(&units[n], shapes[n]);
-        place = place.checked_add(words).expect(rt, "the templates fit a bank");
+        place = place
+            .checked_add(words)
+            .expect(rt, "the templates fit a bank");
     }
     Ok(starts)
 }
@@ -107,13 +110,27 @@ fn rows(rt: HostRuntime) -> Result<(), Fail> {
     let alloc = rt.alloc();
     let stored = [0x940E, 0xF000, 0x930C, 0x940C, 0xF096];
     check(&rt, alloc, &[0x930C, 0x9508], false, &stored)?;
-    let skipped = [0xFF00, 0xC001, 0xC003, 0x940E, 0xF000, 0x931C, 0x940C, 0xF096];
+    let skipped = [
+        0xFF00, 0xC001, 0xC003, 0x940E, 0xF000, 0x931C, 0x940C, 0xF096,
+    ];
     check(&rt, alloc, &[0xFF00, 0x931C, 0x9508], false, &skipped)?;
     let counted = [0xE00A, 0x950A, 0xF009, 0xCFFD, 0x940C, 0xF096];
-    check(&rt, alloc, &[0xE00A, 0x950A, 0xF7F1, 0x9508], false, &counted)?;
+    check(
+        &rt,
+        alloc,
+        &[0xE00A, 0x950A, 0xF7F1, 0x9508],
+        false,
+        &counted,
+    )?;
     let loaded = [0x940E, 0xF381, 0x918C, 0x940C, 0xF096];
     check(&rt, alloc, &[0x918C, 0x9508], true, &loaded)?;
-    check(&rt, alloc, &[0x918C, 0x9508], false, &[0x918C, 0x940C, 0xF096])
+    check(
+        &rt,
+        alloc,
+        &[0x918C, 0x9508],
+        false,
+        &[0x918C, 0x940C, 0xF096],
+    )
 }
 
 #[test]

@@ -7,10 +7,12 @@ pub mod Gather
 pub mod Images
 pub mod Counts
 pub mod Inversion
+pub mod Judged
 pub mod OneFile
 pub mod PlainTurns
 pub mod Prepared
 pub mod Pushed
 pub mod SomeBytes
+pub mod Sources
 pub mod Stopped
 pub mod Calls

@@ -17,10 +17,11 @@ use Rattle.domain_model.specs.Prepared.{prepared}
 use Rattle.domain_model.specs.Loader.{are_for_loader}
 use Rattle.event_script.specs.Refusals.{refusal_of, events_of}
 use Rattle.trace_text.specs.Text.{texts}
+use Rattle.avr_asm.specs.Assembly.{IsImageOf}
 use Rattle.mote_sim.specs.Listing.{listing_text}
 use Rattle.mote_sim.specs.Outcome.{Outcome, NoCommand, Unheld, Refuses, Runs, Makes, Answers}
 use Rattle.mote_sim.specs.Refusal.{Refusal, line_of}
-use Rattle.mote_sim.specs.Tools.{Output, Lists, Writes, IsMadeBy}
+use Rattle.mote_sim.specs.Tools.{Output, Lists, Writes, Counts, Assembles, Says, IsMadeBy, verdict_line}
 use Rattle.mote_sim.specs.Trace.{IsLawfulRun, run_input}
 
 -- These are the bytes of the images of these names: each image is held, and within the limit of an image.
@@ -58,6 +59,9 @@ pub record WritesRun (units handler : ℕ) (names : List (List ℕ)) (files : Li
 abbrev pub Reads : Output → List ℕ → Type 0
 Reads (Lists units places) text = text ≡ listing_text units places
 Reads (Writes c) text = (text ≡ spelling c) × (image_of text ≡ Ok c)
+Reads (Counts count) text = text ≡ verdict_line count
+Reads (Assembles source) text = IsImageOf source text
+Reads (Says said) text = text ≡ said
 
 -- The tool has one file, which was read whole and is within its limit. Nothing refuses it, and the bytes that were added
 -- are what the tool makes of it.

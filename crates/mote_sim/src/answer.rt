@@ -18,6 +18,8 @@ ghost use Rattle.mote_sim.specs.Tools.{TellsOf};
 ghost use Rattle.mote_sim.specs.Trace.{input_of};
 ghost use Rattle.mote_sim.specs.Pieces.{LeadsBySome};
 
+use crate::assembling::{write_module, write_text};
+use crate::judging::judge;
 use crate::listing::list;
 use crate::one_line::{put_answer, put_script, put_size};
 use crate::operands::Operands;
@@ -144,6 +146,9 @@ fn make<K: Sink>(alloc: Global, tool: Tool, file: &[u8], out: &mut K) -> Status
         Tool::Listing => list(alloc, file, out),
         Tool::Upgrade => upgrade(alloc, file, out),
         Tool::Seal => seal(alloc, file, out),
+        Tool::Verdict => judge(alloc, file, out),
+        Tool::Assembly => write_module(alloc, file, out),
+        Tool::Source => write_text(alloc, file, out),
     }
 }
 

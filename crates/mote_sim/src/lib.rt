@@ -14,8 +14,10 @@
 #![tactic(auto)]
 
 mod answer;
+mod assembling;
 mod certain;
 mod given;
+mod judging;
 mod listing;
 mod one_line;
 mod operands;

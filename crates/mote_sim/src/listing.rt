@@ -1,20 +1,26 @@
 //! The listing of an image's code.
-ghost use Rattle.std.specs.Prelude.{◌≡◌, ◌≤◌, length};
+ghost use Rattle.std.specs.Prelude.{◌≡◌, ◌≤◌, ℕ, Bool, List, Ok, length};
 ghost use Rattle.std.specs.List.{AllByRecursion};
 ghost use Rattle.mote_layout.specs.Memory.{bank_words};
 ghost use Rattle.avr_list.specs.Lines.{listing_from, listing_line};
 ghost use Rattle.mote_base.specs.Written.{Puts};
 ghost use Rattle.module_image.specs.Reading.{image_of};
 ghost use Rattle.unit_code.specs.Proper.{IsOfKind};
+ghost use Rattle.unit_code.specs.declared.unit.Unit.{Unit};
+ghost use Rattle.unit_code.specs.Spelling.{Spells};
+ghost use Rattle.unit_code.specs.Units.{refusal};
+ghost use Rattle.harbor_verify.specs.Parts.{IsAccepted};
+ghost use Rattle.domain_model.specs.Prepared.{marks_of};
 ghost use Rattle.mote_sim.specs.Ending.{Ends};
 ghost use Rattle.mote_sim.specs.Pieces.{LeadsBySome};
-ghost use Rattle.mote_sim.specs.Tools.{Tells, list_by, list_where};
+ghost use Rattle.mote_sim.specs.Tools.{TellsBy, Tells, AreRead, Lists, IsListBy, IsListWhere, list_with};
 
-use crate::one_line::{put_answer, put_code, put_image};
+use crate::one_line::{put_code, put_image, put_words};
 use arrayvec::ArrayVec;
 use avr_list::list_line;
+use harbor_verify::{Starts, read_units, verify};
 use module_image::{ImageView, parse};
-use mote_base::{Failed, Line, Sink, Status};
+use mote_base::{Failed, Line, Sink, Status, Words};
 use std::alloc::Global;
 use unit_code::{CodeError, Unit, units};
 
@@ -43,15 +49,48 @@ fn put_units<K: Sink>(out: &mut K, units: &[Unit], places: &[u16]) -> Result<(),
     Ok(())
 }
 
-// Lists an image that was read. All memory is taken before the first line is put.
-fn list_contents<K: Sink>(alloc: Global, image: &ImageView<'_>, out: &mut K) -> Status
+// Lists the units that accepted words spell, with the starts of their templates. All memory is taken before the first
+// line is put.
+fn list_accepted<K: Sink>(alloc: Global, code: &Words<'_>, starts: &Starts, out: &mut K) -> Status
+    requires few { length code.now ≤ 65535 }
+    requires accepted { IsAccepted code.now starts.now }
+    ensures { (marks : List ℕ) (sealed : Bool) (units : List Unit) → Spells code.now marks sealed units starts.now →
+        Ends K.written K.faults (LeadsBySome K.leads) out.old out.new 0 0 (Tells (Ok (Lists units starts.now))) result }
+{
+    let bank = match read_units(alloc, code, starts) {
+        Err(_) => return Status::NoMemory,
+        Ok(bank) => bank,
+    };
+    match put_units(out, &bank.units, &bank.starts) {
+        Ok(()) => Status::Done,
+        Err(_) => Status::WriteFault,
+    }
+}
+
+// Lists the units that the words of a rewriter's image spell.
+fn list_spelled<K: Sink>(alloc: Global, image: &ImageView<'_>, out: &mut K) -> Status
     requires { length image.now.code ≤ 65535 }
     ensures { Ends K.written K.faults (LeadsBySome K.leads) out.old out.new 0 0
-        (Tells (list_where image.now.rewritten image.now)) result }
+        (TellsBy (AreRead image.now (λ units starts. Lists units starts))) result }
 {
-    if image.rewritten() {
-        return put_answer(out, b"refused unbuilt\n", Status::Refused);
+    let mut starts = match Starts::new(alloc) {
+        Err(_) => return Status::NoMemory,
+        Ok(starts) => starts,
+    };
+    let code = image.code();
+    let marks = image.marks();
+    match verify(&code, marks.as_slice(), image.sealed(), &mut starts) {
+        Ok(_) => list_accepted(alloc, &code, &starts, out),
+        Err(refusal) => put_words(out, &refusal),
     }
+}
+
+// Lists the units of the code of an original image. All memory is taken before the first line is put.
+fn list_original<K: Sink>(alloc: Global, image: &ImageView<'_>, out: &mut K) -> Status
+    requires { length image.now.code ≤ 65535 }
+    ensures { Ends K.written K.faults (LeadsBySome K.leads) out.old out.new 0 0
+        (Tells (list_with image.now (refusal image.now.code (marks_of image.now) image.now.sealed))) result }
+{
     let code = image.code();
     let marks = image.marks();
     let list = match units(alloc, &code, marks.as_slice(), image.sealed()) {
@@ -65,10 +104,23 @@ fn list_contents<K: Sink>(alloc: Global, image: &ImageView<'_>, out: &mut K) -> 
     }
 }
 
+// Lists an image that was read.
+fn list_contents<K: Sink>(alloc: Global, image: &ImageView<'_>, out: &mut K) -> Status
+    requires { length image.now.code ≤ 65535 }
+    ensures { Ends K.written K.faults (LeadsBySome K.leads) out.old out.new 0 0
+        (TellsBy (IsListWhere image.now.rewritten image.now)) result }
+{
+    if image.rewritten() {
+        list_spelled(alloc, image, out)
+    } else {
+        list_original(alloc, image, out)
+    }
+}
+
 /// Lists the units of the image that the file holds.
 pub fn list<K: Sink>(alloc: Global, file: &[u8], out: &mut K) -> Status
     ensures { Ends K.written K.faults (LeadsBySome K.leads) out.old out.new 0 0
-        (Tells (list_by (image_of file.now))) result }
+        (TellsBy (IsListBy (image_of file.now))) result }
 {
     match parse(file) {
         Ok(image) => list_contents(alloc, &image, out),

@@ -1,6 +1,6 @@
 //! The words of the command line.
 ghost use Rattle.std.specs.Prelude.{◌≡◌, Some};
-ghost use Rattle.domain_model.specs.Command.{is_option, kind_of, tool_of, takes, limit_of, given_by, nothing_given, command_with, command_of};
+ghost use Rattle.domain_model.specs.Command.{is_option, kind_of, tool_of, tool_limit, takes, limit_of, given_by, nothing_given, command_with, command_of};
 ghost use Rattle.mote_sim.specs.Request.{command_parts, asked, HasItsOperands, HasItsLimits};
 
 use crate::given::Given;
@@ -28,6 +28,12 @@ fn tool_of(verb: &Word) -> Option<Tool>
         Some(Tool::Upgrade)
     } else if verb.text() == "seal" {
         Some(Tool::Seal)
+    } else if verb.text() == "verify" {
+        Some(Tool::Verdict)
+    } else if verb.text() == "asm" {
+        Some(Tool::Assembly)
+    } else if verb.text() == "source" {
+        Some(Tool::Source)
     } else {
         None
     }
@@ -59,6 +65,16 @@ fn takes(kind: Kind, count: usize) -> bool
     }
 }
 
+// The most bytes of a tool's file.
+fn tool_limit(tool: Tool) -> usize
+    ensures { result ≡ tool_limit tool }
+{
+    match tool {
+        Tool::Assembly => SCRIPT_BYTES,
+        _ => IMAGE_BYTES,
+    }
+}
+
 /// The most bytes of the command's file with that number, counted from 0.
 pub fn limit_of(kind: Kind, number: usize) -> usize
     ensures { result ≡ limit_of kind number }
@@ -71,7 +87,7 @@ pub fn limit_of(kind: Kind, number: usize) -> usize
                 IMAGE_BYTES
             }
         }
-        Kind::Tool(_) => IMAGE_BYTES,
+        Kind::Tool(tool) => tool_limit(tool),
     }
 }
 

@@ -6,6 +6,8 @@
 //! - `turns`: turns of a mote of `mote_core` under small limits, by two runners.
 //! - `units`: runs of modules with units and kernel calls of each kind, by the top call and by both runners.
 //! - `scribble`: a second runner, which leaves other values in every byte that a unit leaves open.
+//! - `modules`: modules as text, and the text of an image.
+//! - `verdicts`: verdicts on rewritten images, and their listings.
 //! - `scripts`: the events of a script of `event_script`, and what refuses it.
 //! - `traces`: the text of each line of a trace of `trace_text`.
 //! - `lines`: the lines that `domain_model` keeps of a turn.
@@ -20,6 +22,8 @@ mod images;
 #[cfg(test)]
 mod lines;
 #[cfg(test)]
+mod modules;
+#[cfg(test)]
 mod rows;
 #[cfg(test)]
 mod scripts;
@@ -29,5 +33,7 @@ mod traces;
 mod turns;
 #[cfg(test)]
 mod units;
+#[cfg(test)]
+mod verdicts;
 #[cfg(test)]
 mod words;

@@ -478,7 +478,7 @@ const LISTINGS: &[Row] = &[
         script: "",
         images: &[REWRITTEN],
         status: Status::Refused,
-        text: "refused unbuilt\n",
+        text: "refused verify 2 0\n",
     },
     Row {
         words: "list",

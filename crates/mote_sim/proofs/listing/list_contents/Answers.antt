@@ -1,8 +1,11 @@
-use Rattle.std.proofs.Common.{ap}
-use Rattle.unit_code.specs.Listing.{Listing}
-use Rattle.domain_model.proofs.UnitLaws.{proper_fits}
+use Rattle.std.proofs.Common.{◌≡◌, sym, subst, true, rules}
+use Rattle.mote_sim.specs.Tools.{IsListWhere}
+use Rattle.mote_sim.proofs.Ends.{ends_as}
 use Rattle.mote_sim.proofs.listing.list_contents.Goals as goal
 
-pub put_units-requires-clause-fits : goal.put_units-requires-clause-fits
-put_units-requires-clause-fits g c =
-    rw (c.deref.ensures.value, ap (λ (l : Listing). l.units) c.list.view_is) (proper_fits _ c.in-Ok.ensures.proper)
+pub returns-then-rewritten : goal.returns-then-rewritten
+returns-then-rewritten g c =
+    let is : c.args.image.now.rewritten ≡ true = search rules in
+    ends_as _ _ _ _ _ _ _
+    (λ s t a. record { made = a.made; is_made = subst (λ b. IsListWhere b c.args.image.now a.made) (sym is) a.is_made; told = a.told })
+    c.list_spelled.result c.list_spelled.ensures

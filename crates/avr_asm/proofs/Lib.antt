@@ -1,0 +1,17 @@
+pub mod Texts
+pub mod Cuts
+pub mod Rules
+pub mod Counted
+pub mod Encoded
+pub mod Placed
+pub mod Counts
+pub mod Sound
+pub mod Clear
+pub mod Images
+pub mod Sources
+pub mod Least
+pub mod Passing
+pub mod Respelled
+pub mod Whole
+pub mod Canons
+pub mod Uniques

@@ -1,0 +1,7 @@
+use Rattle.std.proofs.Common.{◌≡◌, ◌++◌, drop, map}
+use Rattle.avr_asm.specs.Assembly.{subscribed_of}
+use Rattle.avr_asm.specs.Seen.{row_seen}
+use Rattle.avr_asm.proofs.fields.subscribed_of.Given as goal
+
+abbrev pub invariant-loop-row : goal.invariant-loop-row
+invariant-loop-row l = l.subscribed.items ++ subscribed_of (map row_seen (drop l.row-index l.rows)) ≡ subscribed_of (map row_seen l.rows)

@@ -1,0 +1,10 @@
+use Rattle.std.proofs.Common.{◌≡◌, List, drop, map}
+use Rattle.avr_asm.specs.Refusals.{first, is_mislabelled}
+use Rattle.avr_asm.specs.Rows.{Row}
+use Rattle.avr_asm.specs.Seen.{row_seen}
+use Rattle.avr_asm.proofs.judge.mislabelled.Given as goal
+
+abbrev pub invariant-loop-row : goal.invariant-loop-row
+invariant-loop-row l =
+    first (λ (r : Row) (rs : List Row). is_mislabelled (map row_seen l.rows) l.total r.line r.unit r.says) (map row_seen (drop l.row-index l.rows))
+    ≡ first (λ (r : Row) (rs : List Row). is_mislabelled (map row_seen l.rows) l.total r.line r.unit r.says) (map row_seen l.rows)

@@ -1,0 +1,12 @@
+pub mod Text
+pub mod Line
+pub mod Reading
+pub mod Rows
+pub mod Refusals
+pub mod Encoding
+pub mod Assembly
+pub mod Source
+pub mod Errors
+pub mod Laws
+pub mod Seen
+pub mod Cut

@@ -1,0 +1,10 @@
+use Rattle.std.proofs.Common.{◌≡◌, ◌∙◌, arith}
+use Rattle.std.proofs.lemmas.Grind.{common_steps}
+use Rattle.mote_sim.specs.Tools.{verdict_line}
+use Rattle.mote_sim.proofs.Ends.{ends_as}
+use Rattle.mote_sim.proofs.one_line.put_verdict.Goals as goal
+
+pub returns : goal.returns
+returns g c =
+    let line : c.as_slice.result.now ≡ verdict_line c.args.count = grind (arith, common_steps) in
+    ends_as _ _ _ _ _ _ _ (λ s t a. (a.0, a.1 ∙ line)) c.put_answer.result c.put_answer.ensures.ends
