@@ -1,4 +1,4 @@
--- The candidate is the template that comes first, but for what a short skip passes over.
+-- The first_match is the template that comes first, but for what a short skip passes over.
 use Rattle.std.proofs.Common.{◌≡◌, ◌∙◌, ℕ, ◌+◌, ◌==◌, ◌&&◌, cond, eqb, not, Bool, true, false, List, [], ◌∷◌, ◌++◌, Option, Some, None, pos, negsuc, ℤ, refl, sym, ap, subst, append_assoc}
 use Rattle.std.specs.Prelude.{⊤}
 use Rattle.std.specs.List.{AllByRecursion}
@@ -20,21 +20,21 @@ use Rattle.harbor_spell.specs.declared.opening.Opening.TheVariants.{Alone, Skipp
 use Rattle.unit_code.specs.Templates.{IsForm, address_of, branch, guard_of, template}
 use Rattle.unit_code.specs.Spelled.{out_high, out_low, out_status}
 use Rattle.unit_code.specs.Loads.{is_load}
-use Rattle.harbor_spell.specs.Front.{Found, branching, calling_local, called_local, candidate, continued, group_end, group_from, grouping, guarded, guarding, is_jump_over, is_one, is_out, jump_offset, long_skip, opening, over_a_jump, skipping, turned}
+use Rattle.harbor_spell.specs.Front.{Found, branching, calling_local, called_local, first_match, continued, group_end, group_from, grouping, guarded, guarding, is_jump_over, is_one, is_out, jump_offset, long_skip, opening, over_a_jump, skipping, inverted}
 use Rattle.unit_code.specs.Beside.{BeginsWithJump, BeginsWithJumpOver}
 use Rattle.harbor_spell.proofs.Standings.{Back, IsStore, back}
 use Rattle.harbor_spell.proofs.Openings.{Opens, opening_guard, opening_kernel, opening_load, opening_plain, opening_pop, opening_push, opening_skip, opening_slot, opens, passed_on}
 
 -- What is behind a short form isn't a longer one's rest.
-abbrev pub IsCandidate : Form → List Instr → Type 0
-IsCandidate (ShortBranch set bit offset) behind = offset ≡ pos 1 → ¬ BeginsWithJump behind
-IsCandidate (ShortSkip i) behind = ¬ BeginsWithJumpOver behind
-IsCandidate _ behind = ⊤
+abbrev pub IsMatchedSo : Form → List Instr → Type 0
+IsMatchedSo (ShortBranch set bit offset) behind = offset ≡ pos 1 → ¬ BeginsWithJump behind
+IsMatchedSo (ShortSkip i) behind = ¬ BeginsWithJumpOver behind
+IsMatchedSo _ behind = ⊤
 
 pub record Begins (f : Form) (is rest : List Instr) : Type 0 where
   pub kind : IsForm f
   pub words : is ≡ template f ++ rest
-  pub read : IsCandidate f rest
+  pub read : IsMatchedSo f rest
 
 -- what is found begins the instructions
 abbrev pub AreBegun : List Instr → Found → Type 0
@@ -79,9 +79,9 @@ not_not : (b : Bool) → not (not b) ≡ b
 not_not true = refl
 not_not false = refl
 
-turned_begun : (i : Instr) (set : Bool) (bit : ℕ) (j : Instr) (is : List Instr) → i ≡ branch set bit (pos 1) → IsBit bit → AreBegun (i ∷ j ∷ is) (turned set bit (jump_offset j) j is)
-turned_begun i set bit j is so small =
-    elim (jump_offset j) as (λ o. jump_offset j ≡ o → AreBegun (i ∷ j ∷ is) (turned set bit o j is)) [
+inverted_begun : (i : Instr) (set : Bool) (bit : ℕ) (j : Instr) (is : List Instr) → i ≡ branch set bit (pos 1) → IsBit bit → AreBegun (i ∷ j ∷ is) (inverted set bit (jump_offset j) j is)
+inverted_begun i set bit j is so small =
+    elim (jump_offset j) as (λ o. jump_offset j ≡ o → AreBegun (i ∷ j ∷ is) (inverted set bit o j is)) [
       | None ↦ λ e. record {
         kind = small;
         words = ap (λ x. x ∷ j ∷ is) so;
@@ -97,8 +97,8 @@ turned_begun i set bit j is so small =
 branch_begun : (i : Instr) (set : Bool) (bit : ℕ) (offset : ℤ) (is : List Instr) → i ≡ branch set bit offset → IsBit bit → AreBegun (i ∷ is) (branching set bit offset is)
 branch_begun i set bit offset [] so small = record { kind = small; words = ap (λ x. x ∷ []) so; read = λ _ h. let e = h.2 in cc }
 branch_begun i set bit offset (j ∷ rest) so small =
-    elim (is_one offset) as (λ t. is_one offset ≡ t → AreBegun (i ∷ j ∷ rest) (cond t (turned set bit (jump_offset j) j rest) (Some (ShortBranch set bit offset, j ∷ rest)))) [
-      | true ↦ λ e. turned_begun i set bit j rest (so ∙ ap (branch set bit) (is_one-true offset e)) small
+    elim (is_one offset) as (λ t. is_one offset ≡ t → AreBegun (i ∷ j ∷ rest) (cond t (inverted set bit (jump_offset j) j rest) (Some (ShortBranch set bit offset, j ∷ rest)))) [
+      | true ↦ λ e. inverted_begun i set bit j rest (so ∙ ap (branch set bit) (is_one-true offset e)) small
       | false ↦ λ e. record {
         kind = small;
         words = ap (λ x. x ∷ j ∷ rest) so;
@@ -190,12 +190,12 @@ begun_by i is Grouping h enc all = let P : Instr → Type 0 = λ x. AreBegun (x 
 begun_by i is CallingLocal h enc all = let P : Instr → Type 0 = λ x. AreBegun (x ∷ is) (calling_local is) in subst P (sym h) (local_begun is)
 begun_by i is Nothing h enc all = tt
 
--- What the candidate is.
-pub candidate_begun : (is : List Instr) → AllByRecursion IsEncodable is → AreBegun is (candidate is)
-candidate_begun [] enc = tt
-candidate_begun (i ∷ is) enc = begun_by i is (opening i) (opens i enc.0) enc.0 enc.1
+-- What the first_match is.
+pub first_match_begun : (is : List Instr) → AllByRecursion IsEncodable is → AreBegun is (first_match is)
+first_match_begun [] enc = tt
+first_match_begun (i ∷ is) enc = begun_by i is (opening i) (opens i enc.0) enc.0 enc.1
 
--- A template that comes first is the candidate.
+-- A template that comes first is the first_match.
 no_jump_over : (i : Instr) (behind : List Instr) → ¬ BeginsWithJumpOver behind → skipping i behind ≡ Some (ShortSkip i, behind)
 no_jump_over i [] none = refl
 no_jump_over i (j ∷ behind) none =
@@ -207,9 +207,9 @@ no_jump_over i (j ∷ behind) none =
 no_jump : (set : Bool) (bit : ℕ) (offset : ℤ) (behind : List Instr) → (offset ≡ pos 1 → ¬ BeginsWithJump behind) → branching set bit offset behind ≡ Some (ShortBranch set bit offset, behind)
 no_jump set bit offset [] none = refl
 no_jump set bit offset (j ∷ behind) none =
-    elim (is_one offset) as (λ t. is_one offset ≡ t → cond t (turned set bit (jump_offset j) j behind) (Some (ShortBranch set bit offset, j ∷ behind)) ≡ Some (ShortBranch set bit offset, j ∷ behind)) [
+    elim (is_one offset) as (λ t. is_one offset ≡ t → cond t (inverted set bit (jump_offset j) j behind) (Some (ShortBranch set bit offset, j ∷ behind)) ≡ Some (ShortBranch set bit offset, j ∷ behind)) [
       | true ↦ λ e. let one = is_one-true offset e in
-          elim (jump_offset j) as (λ o. jump_offset j ≡ o → turned set bit o j behind ≡ Some (ShortBranch set bit offset, j ∷ behind)) [
+          elim (jump_offset j) as (λ o. jump_offset j ≡ o → inverted set bit o j behind ≡ Some (ShortBranch set bit offset, j ∷ behind)) [
             | None ↦ λ f. ap (λ k. Some (ShortBranch set bit k, j ∷ behind)) (sym one)
             | Some k ↦ λ f. absurd (none one (k, behind, ap (λ x. x ∷ behind) (jump_offset-some j k f)))
           ] refl
@@ -228,27 +228,27 @@ both_true true false e f = f
 both_true false b e f = e
 
 -- by the unit
-whole_candidate : (u : Unit) (rest : List Instr) → IsForm (Whole u) → candidate (template (Whole u) ++ rest) ≡ Some (Whole u, rest)
+whole_match : (u : Unit) (rest : List Instr) → IsForm (Whole u) → first_match (template (Whole u) ++ rest) ≡ Some (Whole u, rest)
 unfolding opening standing_of
-whole_candidate (unit.Plain i) rest h = ap (λ o. continued i o rest) (opening_plain i h.0.0)
-whole_candidate (unit.Store i) rest h =
+whole_match (unit.Plain i) rest h = ap (λ o. continued i o rest) (opening_plain i h.0.0)
+whole_match (unit.Store i) rest h =
     ap (λ o. continued (instr.Call (address_of (guard_of i))) o (i ∷ rest)) (opening_guard i (is_store i h.0.0) h.0.1)
     ∙ ap (λ st. guarded (address_of (guard_of i)) i st rest) h.0.0
     ∙ passed_on (address_of (guard_of i) == address_of (guard_of i)) (Some (Whole (unit.Store i), rest)) None (same_number (address_of (guard_of i)))
-whole_candidate (unit.Load i) rest h =
+whole_match (unit.Load i) rest h =
     ap (λ o. continued (instr.Call (address_of (guard_of i))) o (i ∷ rest)) (opening_load i h.0.1 h.0.2)
     ∙ ap (λ st. guarded (address_of (guard_of i)) i st rest) h.0.0
     ∙ passed_on (is_load i && address_of (guard_of i) == address_of (guard_of i)) (Some (Whole (unit.Load i), rest)) None (both_true (is_load i) (address_of (guard_of i) == address_of (guard_of i)) h.0.1 (same_number (address_of (guard_of i))))
-whole_candidate (unit.Push r) rest h = ap (λ o. continued (instr.Call 0xF091) o (instr.Push r ∷ rest)) opening_push
-whole_candidate (unit.Pop d) rest h = ap (λ o. continued (instr.Call 0xF092) o (instr.Pop d ∷ rest)) opening_pop
-whole_candidate (unit.SpGroup true) rest h = refl
-whole_candidate (unit.SpGroup false) rest h = refl
-whole_candidate unit.Reserve rest h = refl
-whole_candidate unit.SlotIndirect rest h = refl
-whole_candidate unit.Return rest h = refl
-whole_candidate (unit.KernelCall n) rest h = ap (λ o. continued (instr.Call (0xF100 + n)) o rest) (opening_kernel n h.0)
-whole_candidate (unit.SlotCall n) rest h = ap (λ o. continued (instr.Call (0xF200 + n)) o rest) (opening_slot n h.0)
-whole_candidate _ rest h = absurd h.1
+whole_match (unit.Push r) rest h = ap (λ o. continued (instr.Call 0xF091) o (instr.Push r ∷ rest)) opening_push
+whole_match (unit.Pop d) rest h = ap (λ o. continued (instr.Call 0xF092) o (instr.Pop d ∷ rest)) opening_pop
+whole_match (unit.SpGroup true) rest h = refl
+whole_match (unit.SpGroup false) rest h = refl
+whole_match unit.Reserve rest h = refl
+whole_match unit.SlotIndirect rest h = refl
+whole_match unit.Return rest h = refl
+whole_match (unit.KernelCall n) rest h = ap (λ o. continued (instr.Call (0xF100 + n)) o rest) (opening_kernel n h.0)
+whole_match (unit.SlotCall n) rest h = ap (λ o. continued (instr.Call (0xF200 + n)) o rest) (opening_slot n h.0)
+whole_match _ rest h = absurd h.1
 
 opening_branch : (set : Bool) (bit : ℕ) (offset : ℤ) → opening (branch set bit offset) ≡ Branching set bit offset
 unfolding opening standing_of
@@ -263,13 +263,13 @@ opening_local : opening (instr.Call 0xF094) ≡ CallingLocal
 unfolding opening
 opening_local = refl
 
-pub candidate-is : (f : Form) (rest : List Instr) → IsForm f → IsCandidate f rest → candidate (template f ++ rest) ≡ Some (f, rest)
-candidate-is (Whole u) rest kind read = whole_candidate u rest kind
-candidate-is (ShortSkip i) rest kind read = ap (λ o. continued i o rest) (opening_skip i kind.0) ∙ no_jump_over i rest read
-candidate-is (LongSkip i offset) rest kind read = ap (λ o. continued i o (instr.Rjmp (pos 1) ∷ instr.Rjmp offset ∷ rest)) (opening_skip i kind.0)
-candidate-is (ShortBranch set bit offset) rest kind read = ap (λ o. continued (branch set bit offset) o rest) (opening_branch set bit offset) ∙ no_jump set bit offset rest read
-candidate-is (LongBranch set bit offset) rest kind read =
+pub first_match-is : (f : Form) (rest : List Instr) → IsForm f → IsMatchedSo f rest → first_match (template f ++ rest) ≡ Some (f, rest)
+first_match-is (Whole u) rest kind read = whole_match u rest kind
+first_match-is (ShortSkip i) rest kind read = ap (λ o. continued i o rest) (opening_skip i kind.0) ∙ no_jump_over i rest read
+first_match-is (LongSkip i offset) rest kind read = ap (λ o. continued i o (instr.Rjmp (pos 1) ∷ instr.Rjmp offset ∷ rest)) (opening_skip i kind.0)
+first_match-is (ShortBranch set bit offset) rest kind read = ap (λ o. continued (branch set bit offset) o rest) (opening_branch set bit offset) ∙ no_jump set bit offset rest read
+first_match-is (LongBranch set bit offset) rest kind read =
     ap (λ o. continued (branch (not set) bit (pos 1)) o (instr.Rjmp offset ∷ rest)) (opening_branch (not set) bit (pos 1))
     ∙ ap (λ b. Some (LongBranch b bit offset, rest)) (not_not set)
-candidate-is (Jumping offset) rest kind read = ap (λ o. continued (instr.Rjmp offset) o rest) (opening_jump offset)
-candidate-is (Calling offset) rest kind read = ap (λ o. continued (instr.Call 0xF094) o (instr.Rjmp offset ∷ rest)) opening_local
+first_match-is (Jumping offset) rest kind read = ap (λ o. continued (instr.Rjmp offset) o rest) (opening_jump offset)
+first_match-is (Calling offset) rest kind read = ap (λ o. continued (instr.Call 0xF094) o (instr.Rjmp offset ∷ rest)) opening_local

@@ -15,10 +15,10 @@ use Rattle.unit_code.specs.Kinds.{standing_of, whole}
 use Rattle.unit_code.specs.Proper.{IsGuardedSo, IsOfKind, IsProper}
 use Rattle.unit_code.specs.Spelling.{AreReadSo, AreShapesOf, AreTemplatesOf, Lays, begins_with_jump, begins_with_single, form_of, forms_from, is_jump, is_single, reads_short, start_of, starts_of}
 use Rattle.unit_code.specs.Templates.{MayStandIn, template}
-use Rattle.harbor_spell.specs.Front.{candidate, is_several, several}
-use Rattle.harbor_spell.proofs.Candidates.{candidate-is}
+use Rattle.harbor_spell.specs.Front.{first_match, is_several, several}
+use Rattle.harbor_spell.proofs.Candidates.{first_match-is}
 use Rattle.harbor_spell.proofs.Encodes.{form_kind}
-use Rattle.harbor_spell.proofs.Fronts.{read_is_candidate, several-true}
+use Rattle.harbor_spell.proofs.Fronts.{read_is_match, several-true}
 use Rattle.harbor_spell.proofs.Placed.{same_count}
 
 form_guarded : (sealed : Bool) (starts : List ℕ) (i at : ℕ) (u : Unit) (s : Shape) → IsGuardedSo sealed u → MayStandIn sealed (form_of starts i at u s)
@@ -93,7 +93,7 @@ single_form starts i at _ s e = cc
 -- a template of one instruction comes first, so none of several does
 stands_single : (sealed : Bool) (f : Form) (is rest : List Instr) → Stands sealed f is rest → several f ≡ false → ¬ BeginsWithSeveral is
 stands_single sealed f is rest h one more =
-    let found : candidate is ≡ Some (f, rest) = ap candidate h.words ∙ candidate-is f rest h.kind (read_is_candidate f rest h.read) in
+    let found : first_match is ≡ Some (f, rest) = ap first_match h.words ∙ first_match-is f rest h.kind (read_is_match f rest h.read) in
     let both : several f ≡ true = sym (ap is_several found) ∙ several-true is more in
     absurd (cc)
 

@@ -12,38 +12,38 @@ use Rattle.unit_code.specs.declared.form.Form.{Form}
 use Rattle.unit_code.specs.declared.form.Form.TheVariants.{Whole, ShortSkip, LongSkip, ShortBranch, LongBranch, Jumping, Calling}
 use Rattle.unit_code.specs.Templates.{IsForm, MayStandIn, template}
 use Rattle.unit_code.specs.Loads.{is_load}
-use Rattle.harbor_spell.specs.Front.{Found, candidate, front, is_several, may_stand, settled}
+use Rattle.harbor_spell.specs.Front.{Found, first_match, front, is_several, may_stand, settled}
 use Rattle.unit_code.specs.Beside.{BeginsWithSeveral, IsReadSo, Stands}
-use Rattle.harbor_spell.proofs.Candidates.{AreBegun, IsCandidate, candidate-is, candidate_begun}
+use Rattle.harbor_spell.proofs.Candidates.{AreBegun, IsMatchedSo, first_match-is, first_match_begun}
 
 -- of several instructions it is no short form
-several_is_candidate : (f : Form) (rest : List Instr) → 2 ≤ length (template f) → IsCandidate f rest
-several_is_candidate (ShortSkip i) rest h = absurd (omega (arith, h))
-several_is_candidate (ShortBranch true bit offset) rest h = absurd (omega (arith, h))
-several_is_candidate (ShortBranch false bit offset) rest h = absurd (omega (arith, h))
-several_is_candidate _ rest h = tt
+several_is_match : (f : Form) (rest : List Instr) → 2 ≤ length (template f) → IsMatchedSo f rest
+several_is_match (ShortSkip i) rest h = absurd (omega (arith, h))
+several_is_match (ShortBranch true bit offset) rest h = absurd (omega (arith, h))
+several_is_match (ShortBranch false bit offset) rest h = absurd (omega (arith, h))
+several_is_match _ rest h = tt
 
-pub several-true : (is : List Instr) → BeginsWithSeveral is → is_several (candidate is) ≡ true
+pub several-true : (is : List Instr) → BeginsWithSeveral is → is_several (first_match is) ≡ true
 several-true is h =
-    ap (λ l. is_several (candidate l)) h.4
-    ∙ ap is_several (candidate-is h.0 h.1 h.2 (several_is_candidate h.0 h.1 h.3))
+    ap (λ l. is_several (first_match l)) h.4
+    ∙ ap is_several (first_match-is h.0 h.1 h.2 (several_is_match h.0 h.1 h.3))
     ∙ le-leb 2 (length (template h.0)) h.3
 
 several_by : (is : List Instr) (o : Found) → AreBegun is o → is_several o ≡ true → BeginsWithSeveral is
 several_by is None h e = cc
 several_by is (Some (f, rest)) h e = (f, rest, h.kind, leb-true 2 (length (template f)) e, h.words)
 
-pub several-from : (is : List Instr) → AllByRecursion IsEncodable is → is_several (candidate is) ≡ true → BeginsWithSeveral is
-several-from is enc e = several_by is (candidate is) (candidate_begun is enc) e
+pub several-from : (is : List Instr) → AllByRecursion IsEncodable is → is_several (first_match is) ≡ true → BeginsWithSeveral is
+several-from is enc e = several_by is (first_match is) (first_match_begun is enc) e
 
-pub read_is_candidate : (f : Form) (rest : List Instr) → IsReadSo f rest → IsCandidate f rest
-read_is_candidate (ShortSkip i) rest h = h.0
-read_is_candidate (ShortBranch set bit offset) rest h = h
-read_is_candidate _ rest h = tt
+pub read_is_match : (f : Form) (rest : List Instr) → IsReadSo f rest → IsMatchedSo f rest
+read_is_match (ShortSkip i) rest h = h.0
+read_is_match (ShortBranch set bit offset) rest h = h
+read_is_match _ rest h = tt
 
 settled_form : (f : Form) (rest : List Instr) → AllByRecursion IsEncodable rest → IsReadSo f rest → settled (Some (f, rest)) ≡ Some (f, rest)
 settled_form (ShortSkip i) rest enc h =
-    elim (is_several (candidate rest)) as (λ t. is_several (candidate rest) ≡ t → cond {A = Found} t None (Some (ShortSkip i, rest)) ≡ Some (ShortSkip i, rest)) [
+    elim (is_several (first_match rest)) as (λ t. is_several (first_match rest) ≡ t → cond {A = Found} t None (Some (ShortSkip i, rest)) ≡ Some (ShortSkip i, rest)) [
       | true ↦ λ e. absurd (h.1 (several-from rest enc e))
       | false ↦ λ e. refl
     ] refl
@@ -80,8 +80,8 @@ may_stand-from sealed _ e = tt
 pub front-is : (sealed : Bool) (f : Form) (is rest : List Instr) → AllByRecursion IsEncodable is → Stands sealed f is rest → front is ≡ Some (f, rest)
 unfolding front
 front-is sealed f is rest enc h =
-    ap (λ l. settled (candidate l)) h.words
-    ∙ ap settled (candidate-is f rest h.kind (read_is_candidate f rest h.read))
+    ap (λ l. settled (first_match l)) h.words
+    ∙ ap settled (first_match-is f rest h.kind (read_is_match f rest h.read))
     ∙ settled_form f rest (behind_encodable sealed f is rest enc h) h.read
 
 -- The instructions begin with the template of the form, which is read so, in whatever image.
@@ -97,7 +97,7 @@ DoesRead is (Some (f, rest)) = IsRead f is rest
 settled_stands : (is : List Instr) (o : Found) → AreBegun is o → DoesRead is (settled o)
 settled_stands is None h = tt
 settled_stands is (Some (ShortSkip i, rest)) h =
-    elim (is_several (candidate rest)) as (λ t. is_several (candidate rest) ≡ t → DoesRead is (cond {A = Found} t None (Some (ShortSkip i, rest)))) [
+    elim (is_several (first_match rest)) as (λ t. is_several (first_match rest) ≡ t → DoesRead is (cond {A = Found} t None (Some (ShortSkip i, rest)))) [
       | true ↦ λ e. tt
       | false ↦ λ e. record { kind = h.kind; words = h.words; read = (h.read, λ several. let t = several-true rest several in absurd (cc)) }
     ] refl
@@ -110,7 +110,7 @@ settled_stands is (Some (Calling offset, rest)) h = record { kind = h.kind; word
 
 front_reads : (is : List Instr) → AllByRecursion IsEncodable is → DoesRead is (front is)
 unfolding front
-front_reads is enc = settled_stands is (candidate is) (candidate_begun is enc)
+front_reads is enc = settled_stands is (first_match is) (first_match_begun is enc)
 
 -- the front comes first
 pub front-first : (is : List Instr) (f : Form) (rest : List Instr) → AllByRecursion IsEncodable is → front is ≡ Some (f, rest) → is ≡ template f ++ rest

@@ -72,13 +72,13 @@ abbrev pub skipping : Instr → List Instr → Found
 skipping i [] = Some (ShortSkip i, [])
 skipping i (j ∷ behind) = if is_jump_over (jump_offset j) then long_skip i behind else Some (ShortSkip i, j ∷ behind)
 
-abbrev pub turned : Bool → ℕ → Option ℤ → Instr → List Instr → Found
-turned set bit None j behind = Some (ShortBranch set bit (pos 1), j ∷ behind)
-turned set bit (Some offset) j behind = Some (LongBranch (not set) bit offset, behind)
+abbrev pub inverted : Bool → ℕ → Option ℤ → Instr → List Instr → Found
+inverted set bit None j behind = Some (ShortBranch set bit (pos 1), j ∷ behind)
+inverted set bit (Some offset) j behind = Some (LongBranch (not set) bit offset, behind)
 
 abbrev pub branching : Bool → ℕ → ℤ → List Instr → Found
 branching set bit offset [] = Some (ShortBranch set bit offset, [])
-branching set bit offset (j ∷ behind) = if is_one offset then turned set bit (jump_offset j) j behind else Some (ShortBranch set bit offset, j ∷ behind)
+branching set bit offset (j ∷ behind) = if is_one offset then inverted set bit (jump_offset j) j behind else Some (ShortBranch set bit offset, j ∷ behind)
 
 -- whether the entry guards the unit
 abbrev pub guards : ℕ → Unit → Bool
@@ -89,13 +89,13 @@ guards address (unit.Pop d) = address == address_of entry.PopGuard
 guards address _ = false
 
 -- the unit of an instruction behind a guard: a load that has a guard is a unit of its own
-abbrev pub itself : Instr → Unit → Unit
-itself i (unit.Store x) = unit.Store i
-itself i (unit.Plain x) = unit.Load i
-itself i u = u
+abbrev pub behind_guard : Instr → Unit → Unit
+behind_guard i (unit.Store x) = unit.Store i
+behind_guard i (unit.Plain x) = unit.Load i
+behind_guard i u = u
 
 abbrev pub guarded : ℕ → Instr → Standing → List Instr → Found
-guarded address i (Part (piece.Whole u)) behind = if guards address (itself i u) then Some (Whole (itself i u), behind) else None
+guarded address i (Part (piece.Whole u)) behind = if guards address (behind_guard i u) then Some (Whole (behind_guard i u), behind) else None
 guarded address i _ behind = None
 
 abbrev pub guarding : ℕ → List Instr → Found
@@ -136,9 +136,9 @@ continued i CallingLocal behind = calling_local behind
 continued i Nothing behind = None
 
 -- The template that comes first; what a short skip would pass over isn't looked at.
-abbrev pub candidate : List Instr → Found
-candidate [] = None
-candidate (i ∷ behind) = continued i (opening i) behind
+abbrev pub first_match : List Instr → Found
+first_match [] = None
+first_match (i ∷ behind) = continued i (opening i) behind
 
 -- whether the template of a form has several instructions
 abbrev pub several : Form → Bool
@@ -151,12 +151,12 @@ is_several (Some (f, behind)) = several f
 
 abbrev pub settled : Found → Found
 settled None = None
-settled (Some (ShortSkip i, behind)) = if is_several (candidate behind) then None else Some (ShortSkip i, behind)
+settled (Some (ShortSkip i, behind)) = if is_several (first_match behind) then None else Some (ShortSkip i, behind)
 settled (Some found) = Some found
 
 -- The template that comes first, in whatever image.
 unfoldable pub front : List Instr → Found
-front is = settled (candidate is)
+front is = settled (first_match is)
 
 -- whether the form may stand in an image that is sealed or not: a load has its guard exactly in a sealed one
 abbrev pub may_stand : Bool → Form → Bool

@@ -1,4 +1,4 @@
-//! What an instruction begins in rewritten code.
+//! What the first instruction of a template tells of it.
 
 use unit_code::Form;
 

@@ -6,28 +6,28 @@ use Rattle.harbor_verify.specs.declared.error.VerifyError.TheVariants.{Word, Gua
 use Rattle.harbor_verify.specs.Aims.{astray_from}
 use Rattle.harbor_verify.specs.Parts.{ArePartsOf, AreResolved}
 use Rattle.harbor_verify.specs.Verdict.{or_else, refusal, refusal_of_parts, refusal_of_targets, refusal_of_templates, refusal_of_units, refusal_of_words, stray_mark, units_in}
-use Rattle.harbor_verify.specs.Walks.{barred, forms_in, starts_in, stuck}
+use Rattle.harbor_verify.specs.Walks.{unfit, forms_in, starts_in, gap}
 
 pub none_from : {A : Type 0} (o : Option A) → ((x : A) → o ≡ Some x → ⊥) → o ≡ None
 none_from None h = refl
 none_from (Some x) h = absurd (h x refl)
 
-pub by_words : (sealed : Bool) (words marks : List ℕ) (at : ℕ) → barred sealed words ≡ Some at → refusal words marks sealed ≡ Some (Word at)
+pub by_words : (sealed : Bool) (words marks : List ℕ) (at : ℕ) → unfit sealed words ≡ Some at → refusal words marks sealed ≡ Some (Word at)
 unfolding refusal refusal_of_words
 by_words sealed words marks at e = ap (λ o. or_else (option_map (λ x. Word x) o) (or_else (refusal_of_templates sealed words) (refusal_of_parts words marks))) e
 
-pub past_words : (sealed : Bool) (words marks : List ℕ) → barred sealed words ≡ None
+pub past_words : (sealed : Bool) (words marks : List ℕ) → unfit sealed words ≡ None
     → refusal words marks sealed ≡ or_else (refusal_of_templates sealed words) (refusal_of_parts words marks)
 unfolding refusal refusal_of_words
 past_words sealed words marks e = ap (λ o. or_else (option_map (λ x. Word x) o) (or_else (refusal_of_templates sealed words) (refusal_of_parts words marks))) e
 
-pub by_templates : (sealed : Bool) (words marks : List ℕ) (at : ℕ) → barred sealed words ≡ None → stuck sealed words ≡ Some at
+pub by_templates : (sealed : Bool) (words marks : List ℕ) (at : ℕ) → unfit sealed words ≡ None → gap sealed words ≡ Some at
     → refusal words marks sealed ≡ Some (Guard at)
 unfolding refusal_of_templates
 by_templates sealed words marks at e f =
     past_words sealed words marks e ∙ ap (λ o. or_else (option_map (λ x. Guard x) o) (refusal_of_parts words marks)) f
 
-pub past_templates : (sealed : Bool) (words marks : List ℕ) → barred sealed words ≡ None → stuck sealed words ≡ None
+pub past_templates : (sealed : Bool) (words marks : List ℕ) → unfit sealed words ≡ None → gap sealed words ≡ None
     → refusal words marks sealed ≡ refusal_of_parts words marks
 unfolding refusal_of_templates
 past_templates sealed words marks e f =

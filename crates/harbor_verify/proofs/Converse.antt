@@ -27,19 +27,19 @@ use Rattle.harbor_spell.proofs.Fronts.{behind_encodable, front-is, may_stand-tru
 use Rattle.harbor_spell.proofs.Standings.{Back, IsCalled, IsStore, back, is_called}
 use Rattle.std.proofs.lemmas.List.{drop-drop}
 use Rattle.harbor_spell.proofs.Starts.{form_words-some, instruction_length-some}
-use Rattle.harbor_verify.specs.Words.{instructions, is_barred, is_barred_kind, may_enter}
-use Rattle.harbor_verify.specs.Walks.{barred_from, barred_here, stuck_from, stuck_here}
-use Rattle.harbor_verify.proofs.Readings.{NoneBarred, behind_words, dropped, no_words, nothing, permitted_here, reads, something}
+use Rattle.harbor_verify.specs.Words.{instructions, is_unfit, is_unfit_kind, may_enter}
+use Rattle.harbor_verify.specs.Walks.{unfit_from, unfit_here, gap_from, gap_here}
+use Rattle.harbor_verify.proofs.Readings.{AreFit, behind_words, dropped, no_words, nothing, permitted_here, reads, something}
 
 module _ (sealed : Bool) where
   -- An entry of the page that may be called.
-  callable_at : (a : ℕ) (e : Entry) → a < 2 ^ 16 → StandsAt e a → may_enter sealed (Some e) ≡ true → is_barred sealed (instr.Call a) ≡ false
+  callable_at : (a : ℕ) (e : Entry) → a < 2 ^ 16 → StandsAt e a → may_enter sealed (Some e) ≡ true → is_unfit sealed (instr.Call a) ≡ false
   callable_at a e small at may =
       let one = lt-ltb a (2 ^ 16) small in
       let two : may_enter sealed (entry_at a) ≡ true = ap (may_enter sealed) ((entry_at-some a e).1 at) ∙ may in
       ap not (ap₂ (λ (x : Bool) (y : Bool). x && y) one two)
 
-  store_callable : (i : Instr) → IsStore i → IsEncodable i → is_barred sealed (instr.Call (address_of (guard_of i))) ≡ false
+  store_callable : (i : Instr) → IsStore i → IsEncodable i → is_unfit sealed (instr.Call (address_of (guard_of i))) ≡ false
   unfolding IsEncodable
   store_callable (instr.StX r) so enc = callable_at 0xF000 entry.StoreX (lit< tt) refl refl
   store_callable (instr.StXInc r) so enc = callable_at 0xF001 entry.StoreXInc (lit< tt) refl refl
@@ -54,7 +54,7 @@ module _ (sealed : Bool) where
   store_callable _ so enc = absurd so
 
   -- The guard of a load may be called in a sealed image.
-  load_callable : (i : Instr) → sealed ≡ true → is_load i ≡ true → IsEncodable i → is_barred sealed (instr.Call (address_of (guard_of i))) ≡ false
+  load_callable : (i : Instr) → sealed ≡ true → is_load i ≡ true → IsEncodable i → is_unfit sealed (instr.Call (address_of (guard_of i))) ≡ false
   unfolding IsEncodable is_load
   load_callable (instr.LdX d) may so enc = callable_at 0xF381 entry.LoadX (lit< tt) refl may
   load_callable (instr.LdXInc d) may so enc = callable_at 0xF382 entry.LoadXInc (lit< tt) refl may
@@ -68,17 +68,17 @@ module _ (sealed : Bool) where
   load_callable (instr.LddZ d q) may so enc = let h : q < 64 = enc.1 in callable_at (0xF340 + q) (entry.LoadZ q) (omega arith) (h, refl) may
   load_callable _ may so enc = cc
 
-  -- an instruction that stands for a unit is not barred, if it is no call of an entry
-  free_by : (i : Instr) (u : Unit) → standing_of i ≡ whole u → ((a : ℕ) → IsCalled a (whole u) → ⊥) → is_barred sealed i ≡ false
+  -- an instruction that stands for a unit is not unfit, if it is no call of an entry
+  free_by : (i : Instr) (u : Unit) → standing_of i ≡ whole u → ((a : ℕ) → IsCalled a (whole u) → ⊥) → is_unfit sealed i ≡ false
   unfolding standing_of
   free_by (instr.Call a) u st none = absurd (none a (subst (IsCalled a) st (is_called a)))
   free_by (instr.Jmp k) u st none = cc
-  free_by i u st none = ap is_barred_kind st
+  free_by i u st none = ap is_unfit_kind st
 
   is_store : (i : Instr) → standing_of i ≡ whole (unit.Store i) → IsStore i
   is_store i st = let P : Standing → Type 0 = Back i in (subst P st (back i)).1
 
-  whole_free : (u : Unit) → IsForm (Whole u) → MayStandIn sealed (Whole u) → NoneBarred sealed (template (Whole u))
+  whole_free : (u : Unit) → IsForm (Whole u) → MayStandIn sealed (Whole u) → AreFit sealed (template (Whole u))
   unfolding standing_of
   whole_free (unit.Plain i) h may = (free_by i (unit.Plain i) h.0.0 (λ a c. c), tt)
   whole_free (unit.Store i) h may = (store_callable i (is_store i h.0.0) h.0.1, (free_by i (unit.Store i) h.0.0 (λ a c. c), tt))
@@ -94,16 +94,16 @@ module _ (sealed : Bool) where
   whole_free (unit.SlotCall n) h may = let k : n < 16 = h.0 in (callable_at (0xF200 + n) (entry.Slot n) (omega arith) (h.0, refl) refl, tt)
   whole_free _ h may = absurd h.1
 
-  branch_free : (set : Bool) (bit : ℕ) (k : ℤ) → is_barred sealed (branch set bit k) ≡ false
+  branch_free : (set : Bool) (bit : ℕ) (k : ℤ) → is_unfit sealed (branch set bit k) ≡ false
   unfolding standing_of
   branch_free true bit k = refl
   branch_free false bit k = refl
 
-  jump_free : (k : ℤ) → is_barred sealed (instr.Rjmp k) ≡ false
+  jump_free : (k : ℤ) → is_unfit sealed (instr.Rjmp k) ≡ false
   unfolding standing_of
   jump_free k = refl
 
-  template_free : (f : Form) → IsForm f → MayStandIn sealed f → NoneBarred sealed (template f)
+  template_free : (f : Form) → IsForm f → MayStandIn sealed f → AreFit sealed (template f)
   template_free (Whole u) h may = whole_free u h may
   template_free (ShortSkip i) h may = (free_by i (unit.Skip i) h.0 (λ a c. c), tt)
   template_free (LongSkip i k) h may = (free_by i (unit.Skip i) h.0 (λ a c. c), (jump_free (pos 1), (jump_free k, tt)))
@@ -112,15 +112,15 @@ module _ (sealed : Bool) where
   template_free (Jumping k) h may = (jump_free k, tt)
   template_free (Calling k) h may = (callable_at 0xF094 entry.LocalCall (lit< tt) refl refl, (jump_free k, tt))
 
-  free_joined : (is js : List Instr) → NoneBarred sealed is → NoneBarred sealed js → NoneBarred sealed (is ++ js)
+  free_joined : (is js : List Instr) → AreFit sealed is → AreFit sealed js → AreFit sealed (is ++ js)
   free_joined [] js h k = k
   free_joined (i ∷ is) js h k = (h.0, free_joined is js h.1 k)
 
-  -- no instruction of templates is barred
-  pub templates_free : (fs : List Form) (is : List Instr) → StandBy sealed fs is [] → NoneBarred sealed is
-  templates_free [] is h = let P : List Instr → Type 0 = NoneBarred sealed in subst P (sym h) tt
+  -- no instruction of templates is unfit
+  pub templates_free : (fs : List Form) (is : List Instr) → StandBy sealed fs is [] → AreFit sealed is
+  templates_free [] is h = let P : List Instr → Type 0 = AreFit sealed in subst P (sym h) tt
   templates_free (f ∷ fs) is h =
-      let P : List Instr → Type 0 = NoneBarred sealed in
+      let P : List Instr → Type 0 = AreFit sealed in
       subst P (sym h.1.words) (free_joined (template f) h.0 (template_free f h.1.kind h.1.guarded) (templates_free fs h.0 h.2))
 
 pub same_read : (i j : Instr) (n m : ℕ) (r : Result (Instr × ℕ) DecodeError) → r ≡ Ok (i, n) → r ≡ Ok (j, m) → i ≡ j
@@ -147,8 +147,8 @@ words_read (i ∷ is) (w ∷ ws) h =
     ]
 
 module _ (sealed : Bool) where
-  -- words whose instructions are free are not barred
-  pub free_words : (words : List ℕ) (over place : ℕ) (is : List Instr) → AreWordsOf is (drop over words) → NoneBarred sealed is → (barred_from sealed) over place words ≡ None
+  -- words whose instructions are free are not unfit
+  pub free_words : (words : List ℕ) (over place : ℕ) (is : List Instr) → AreWordsOf is (drop over words) → AreFit sealed is → (unfit_from sealed) over place words ≡ None
   free_words [] over place is h free = refl
   free_words (w ∷ ws) (suc over) place is h free = free_words ws over (place + 1) is h free
   free_words (w ∷ ws) zero place [] h free = cc
@@ -159,9 +159,9 @@ module _ (sealed : Bool) where
             let same : j ≡ i = same_read j i (instruction_length j) (instruction_length i) (decoded w (next_word ws)) e h.0 in
             let P : List ℕ → Type 0 = λ l. AreWordsOf is l in
             let n = instruction_length i in
-            ap (λ l. (barred_here sealed) l place (λ over. (barred_from sealed) over (place + 1) ws)) at
-            ∙ ap (λ x. cond ((is_barred sealed) x) (Some place) ((barred_from sealed) (instruction_length x - 1) (place + 1) ws)) same
-            ∙ ap (λ b. cond b (Some place) ((barred_from sealed) (n - 1) (place + 1) ws)) free.0
+            ap (λ l. (unfit_here sealed) l place (λ over. (unfit_from sealed) over (place + 1) ws)) at
+            ∙ ap (λ x. cond ((is_unfit sealed) x) (Some place) ((unfit_from sealed) (instruction_length x - 1) (place + 1) ws)) same
+            ∙ ap (λ b. cond b (Some place) ((unfit_from sealed) (n - 1) (place + 1) ws)) free.0
             ∙ free_words ws (n - 1) (place + 1) is (subst P (dropped n w ws (instruction_length-some i)) h.1) free.1
       ]
 
@@ -190,7 +190,7 @@ module _ (sealed : Bool) where
       (at, (subst S at words2, subst E at (behind_encodable sealed f (instructions (w ∷ ws)) rest read.1 stands)))
 
   -- a walk over templates comes to what is behind them
-  pub templates_walked : (words : List ℕ) (over place : ℕ) (fs : List Form) → AreRead (drop over words) → StandBy sealed fs (instructions (drop over words)) [] → (stuck_from sealed) over place words ≡ None
+  pub templates_walked : (words : List ℕ) (over place : ℕ) (fs : List Form) → AreRead (drop over words) → StandBy sealed fs (instructions (drop over words)) [] → (gap_from sealed) over place words ≡ None
   templates_walked [] over place fs read h = refl
   templates_walked (w ∷ ws) (suc over) place fs read h = templates_walked ws over (place + 1) fs read h
   templates_walked (w ∷ ws) zero place [] read h = let P : List Instr → Type 0 = λ l. AreWordsOf l (w ∷ ws) in let none : w ∷ ws ≡ [] = subst P h read.0 in cc
@@ -198,5 +198,5 @@ module _ (sealed : Bool) where
       let e = front-is sealed f (instructions (w ∷ ws)) h.0 read.1 h.1 in
       let more = read_behind_form f h.0 w ws h.1 read in
       let P : List Instr → Type 0 = λ l. StandBy sealed fs l [] in
-      ap (λ o. stuck_here o place (λ over. (stuck_from sealed) over (place + 1) ws)) (permitted_here sealed true f h.0 w ws e (may_stand-true sealed f h.1.guarded))
+      ap (λ o. gap_here o place (λ over. (gap_from sealed) over (place + 1) ws)) (permitted_here sealed true f h.0 w ws e (may_stand-true sealed f h.1.guarded))
       ∙ templates_walked ws (form_words f - 1) (place + 1) fs more.1 (subst P more.0 h.2)

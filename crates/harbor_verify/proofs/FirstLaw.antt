@@ -26,13 +26,13 @@ use Rattle.harbor_verify.specs.Errors.{GoesAstray, Holds}
 use Rattle.harbor_verify.specs.Law.{IsFirst, error_word, order}
 use Rattle.harbor_verify.specs.Parts.{ArePartsOf}
 use Rattle.harbor_verify.specs.Verdict.{or_else, refusal, refusal_of_targets, refusal_of_templates, refusal_of_units, refusal_of_words, stray_mark, units_in}
-use Rattle.harbor_verify.specs.Walks.{barred, forms_in, starts_in, stuck}
+use Rattle.harbor_verify.specs.Walks.{unfit, forms_in, starts_in, gap}
 use Rattle.harbor_verify.specs.Words.{instructions}
-use Rattle.harbor_verify.proofs.Conditions.{barred_holds, barred_least, stuck_at, stuck_holds}
+use Rattle.harbor_verify.proofs.Conditions.{unfit_holds, unfit_least, gap_at, gap_holds}
 use Rattle.harbor_verify.proofs.Converse.{AreRead, words_read}
 use Rattle.harbor_verify.proofs.NoRefusal.{AreParted, are_parted, lays, none_of, refused_when, units_resolve}
 use Rattle.harbor_verify.proofs.NthForm.{first_words}
-use Rattle.harbor_verify.proofs.Readings.{not_barred_read}
+use Rattle.harbor_verify.proofs.Readings.{not_unfit_read}
 use Rattle.harbor_verify.proofs.Scanned.{Scan, scan}
 
 module _ (sealed : Bool) (words marks : List ℕ) (few : length words ≤ 65535) (small : Words16 words) where
@@ -65,57 +65,57 @@ module _ (sealed : Bool) (words marks : List ℕ) (few : length words ≤ 65535)
   }
 
   -- Word
-  not_1 : barred sealed words ≡ None → (other : VerifyError) → Holds words marks sealed other → order other ≡ 1 → ⊥
-  unfolding barred
-  not_1 none (Word at) h same = let b = barred_least sealed words 0 0 h.0 h.1 h.2 h.4 in none-some b.0 (sym none ∙ b.1)
+  not_1 : unfit sealed words ≡ None → (other : VerifyError) → Holds words marks sealed other → order other ≡ 1 → ⊥
+  unfolding unfit
+  not_1 none (Word at) h same = let b = unfit_least sealed words 0 0 h.0 h.1 h.2 h.4 in none-some b.0 (sym none ∙ b.1)
   not_1 none _ h same = absurd (omega (arith, same))
 
-  least_1 : (at : ℕ) → barred sealed words ≡ Some at → (other : VerifyError) → Holds words marks sealed other → order other ≡ 1 → at ≤ error_word other
-  unfolding barred
+  least_1 : (at : ℕ) → unfit sealed words ≡ Some at → (other : VerifyError) → Holds words marks sealed other → order other ≡ 1 → at ≤ error_word other
+  unfolding unfit
   least_1 at is (Word w) h same =
-      let b = barred_least sealed words 0 0 h.0 h.1 h.2 h.4 in
+      let b = unfit_least sealed words 0 0 h.0 h.1 h.2 h.4 in
       let e : at ≡ b.0 = same_Some at b.0 (sym is ∙ b.1) in
       let place = h.3 in
       let low = b.2 in
       omega (arith, e, low, place)
   least_1 at is _ h same = absurd (omega (arith, same))
 
-  first_1 : (at : ℕ) → barred sealed words ≡ Some at → IsFirst words marks sealed (Word at)
-  unfolding barred
+  first_1 : (at : ℕ) → unfit sealed words ≡ Some at → IsFirst words marks sealed (Word at)
+  unfolding unfit
   first_1 at is =
-      let b = barred_holds sealed words 0 0 at is in
+      let b = unfit_holds sealed words 0 0 at is in
       first_from 1 (Word at) clear_1 refl (b.is, b.rest, b.begin, (let p = b.place in omega (arith, p)), b.bad) (least_1 at is)
 
   -- Guard
-  are_read : barred sealed words ≡ None → AreRead words
-  unfolding barred
-  are_read none = let read = not_barred_read sealed words 0 0 none in (read.0, words_encodable (instructions words) words small read.0)
+  are_read : unfit sealed words ≡ None → AreRead words
+  unfolding unfit
+  are_read none = let read = not_unfit_read sealed words 0 0 none in (read.0, words_encodable (instructions words) words small read.0)
 
-  guard_at : barred sealed words ≡ None → (at : ℕ) → Holds words marks sealed (Guard at) → stuck sealed words ≡ Some at
-  unfolding stuck
+  guard_at : unfit sealed words ≡ None → (at : ℕ) → Holds words marks sealed (Guard at) → gap sealed words ≡ Some at
+  unfolding gap
   guard_at none at h =
       let read = words_read h.0 words h.3 in
       let P : List Instr → Type 0 = λ l. StandBy sealed h.1 l h.2 in
       let place = h.5 in
-      stuck_at sealed words 0 0 h.1 h.2 (are_read none) (subst P (sym read) h.4) h.6 h.7 ∙ ap Some (omega (arith, place))
+      gap_at sealed words 0 0 h.1 h.2 (are_read none) (subst P (sym read) h.4) h.6 h.7 ∙ ap Some (omega (arith, place))
 
-  not_2 : barred sealed words ≡ None → stuck sealed words ≡ None → (other : VerifyError) → Holds words marks sealed other → order other ≡ 2 → ⊥
+  not_2 : unfit sealed words ≡ None → gap sealed words ≡ None → (other : VerifyError) → Holds words marks sealed other → order other ≡ 2 → ⊥
   not_2 read none (Guard at) h same = none-some at (sym none ∙ guard_at read at h)
   not_2 read none _ h same = absurd (omega (arith, same))
 
-  least_2 : barred sealed words ≡ None → (at : ℕ) → stuck sealed words ≡ Some at → (other : VerifyError) → Holds words marks sealed other → order other ≡ 2 → at ≤ error_word other
+  least_2 : unfit sealed words ≡ None → (at : ℕ) → gap sealed words ≡ Some at → (other : VerifyError) → Holds words marks sealed other → order other ≡ 2 → at ≤ error_word other
   least_2 read at is (Guard w) h same = let e : at ≡ w = same_Some at w (sym is ∙ guard_at read w h) in omega (arith, e)
   least_2 read at is _ h same = absurd (omega (arith, same))
 
-  first_2 : barred sealed words ≡ None → (at : ℕ) → stuck sealed words ≡ Some at → IsFirst words marks sealed (Guard at)
-  unfolding stuck
+  first_2 : unfit sealed words ≡ None → (at : ℕ) → gap sealed words ≡ Some at → IsFirst words marks sealed (Guard at)
+  unfolding gap
   first_2 none at is =
       let read = are_read none in
-      let s = stuck_holds sealed words 0 0 at read is in
+      let s = gap_holds sealed words 0 0 at read is in
       first_from 2 (Guard at) (clear_more 1 clear_1 (not_1 none)) refl (instructions words, s.fs, s.rest, read.0, s.stand, (let p = s.place in omega (arith, p)), s.some, s.none) (least_2 none at is)
 
   -- The rest is of words that are templates side by side.
-  module _ (read : barred sealed words ≡ None) (stand : stuck sealed words ≡ None) where
+  module _ (read : unfit sealed words ≡ None) (stand : gap sealed words ≡ None) where
     parts : AreParted sealed words
     parts = are_parted sealed words small read stand
 
@@ -249,7 +249,7 @@ module _ (sealed : Bool) (words marks : List ℕ) (few : length words ≤ 65535)
   abbrev First : VerifyError → Type 0
   First e = IsFirst words marks sealed e
 
-  by_units : (e : VerifyError) (read : barred sealed words ≡ None) (stand : stuck sealed words ≡ None) (aims : astray_from (starts_in words) 0 (forms_in words) ≡ None) → refusal_of_units words (units_in words) ≡ Some e → First e
+  by_units : (e : VerifyError) (read : unfit sealed words ≡ None) (stand : gap sealed words ≡ None) (aims : astray_from (starts_in words) 0 (forms_in words) ≡ None) → refusal_of_units words (units_in words) ≡ Some e → First e
   unfolding refusal_of_units
   by_units e read stand aims is =
       let us = units_in words in
@@ -266,7 +266,7 @@ module _ (sealed : Bool) (words marks : List ℕ) (few : length words ≤ 65535)
       (choice (is_empty words) Empty third e past.1))
       (choice (goes_on us) FallsOff second e is)
 
-  clear_7 : (read : barred sealed words ≡ None) (stand : stuck sealed words ≡ None) (aims : astray_from (starts_in words) 0 (forms_in words) ≡ None) → refusal_of_units words (units_in words) ≡ None → Clear sealed words marks few small 7
+  clear_7 : (read : unfit sealed words ≡ None) (stand : gap sealed words ≡ None) (aims : astray_from (starts_in words) 0 (forms_in words) ≡ None) → refusal_of_units words (units_in words) ≡ None → Clear sealed words marks few small 7
   unfolding refusal_of_units
   clear_7 read stand aims is =
       let us = units_in words in
@@ -288,10 +288,10 @@ module _ (sealed : Bool) (words marks : List ℕ) (few : length words ≤ 65535)
       let four = or_else (refusal_of_units words us) (stray_mark starts marks) in
       let three = or_else (refusal_of_targets words) four in
       let two = or_else (refusal_of_templates sealed words) three in
-      ⊎_elim (λ here. let m = mapped (barred sealed words) (λ at. Word at) e here in subst First m.2 (first_1 sealed words marks few small m.0 m.1))
-      (λ past. let read = none_of (barred sealed words) (λ at. Word at) past.0 in
-      ⊎_elim (λ here. let m = mapped (stuck sealed words) (λ at. Guard at) e here in subst First m.2 (first_2 sealed words marks few small read m.0 m.1))
-      (λ past. let stand = none_of (stuck sealed words) (λ at. Guard at) past.0 in
+      ⊎_elim (λ here. let m = mapped (unfit sealed words) (λ at. Word at) e here in subst First m.2 (first_1 sealed words marks few small m.0 m.1))
+      (λ past. let read = none_of (unfit sealed words) (λ at. Word at) past.0 in
+      ⊎_elim (λ here. let m = mapped (gap sealed words) (λ at. Guard at) e here in subst First m.2 (first_2 sealed words marks few small read m.0 m.1))
+      (λ past. let stand = none_of (gap sealed words) (λ at. Guard at) past.0 in
       ⊎_elim (λ here. let m = mapped (astray_from starts 0 (forms_in words)) (λ at. Target at) e here in subst First m.2 (first_3 sealed words marks few small read stand m.0 m.1))
       (λ past. let aims = none_of (astray_from starts 0 (forms_in words)) (λ at. Target at) past.0 in
       ⊎_elim (λ here. by_units e read stand aims here)

@@ -1,4 +1,5 @@
 pub mod Accepted
+pub mod Bounded
 pub mod Chain
 pub mod Conditions
 pub mod Converse

@@ -26,9 +26,9 @@ use Rattle.harbor_verify.specs.declared.error.VerifyError.{VerifyError}
 use Rattle.harbor_verify.specs.declared.error.VerifyError.TheVariants.{Word, Guard, Target, FallsOff, Empty, TooLong, Entry}
 use Rattle.harbor_verify.specs.Aims.{astray_from, shapes_of}
 use Rattle.harbor_verify.specs.Verdict.{or_else, refusal, refusal_of_targets, refusal_of_templates, refusal_of_units, refusal_of_words, stray_mark, units_in}
-use Rattle.harbor_verify.specs.Walks.{barred, forms_in, starts_in, stuck}
+use Rattle.harbor_verify.specs.Walks.{unfit, forms_in, starts_in, gap}
 use Rattle.harbor_verify.specs.Words.{instructions}
-use Rattle.harbor_verify.proofs.Readings.{not_barred_read, parted}
+use Rattle.harbor_verify.proofs.Readings.{not_unfit_read, parted}
 use Rattle.harbor_verify.proofs.Resolved.{Resolves, resolved, shapes_count}
 
 pub neither : (a b : Option VerifyError) → or_else a b ≡ None → (a ≡ None) × (b ≡ None)
@@ -73,10 +73,10 @@ all_guarded sealed starts i (u ∷ us) (s ∷ ss) is h stand =
     (unit_guarded sealed starts i (start_of starts i) u s stand.1.guarded, all_guarded sealed starts (i + 1) us ss stand.0 (omega (arith, h)) stand.2)
 
 module _ (sealed : Bool) where
-  pub are_parted : (words : List ℕ) → Words16 words → barred sealed words ≡ None → stuck sealed words ≡ None → AreParted sealed words
-  unfolding barred stuck forms_in starts_in
+  pub are_parted : (words : List ℕ) → Words16 words → unfit sealed words ≡ None → gap sealed words ≡ None → AreParted sealed words
+  unfolding unfit gap forms_in starts_in
   are_parted words small h k =
-      let read = not_barred_read sealed words 0 0 h in
+      let read = not_unfit_read sealed words 0 0 h in
       let parts = parted sealed words 0 0 (words_encodable (instructions words) words small read.0) k in
       record { spelled = read.0; stand = parts.stand; starts = parts.starts }
 
@@ -131,7 +131,7 @@ module _ (sealed : Bool) where
       let two = neither (refusal_of_templates sealed words) three one.1 in
       let aims = neither (refusal_of_targets words) (or_else (refusal_of_units words us) (stray_mark starts marks)) two.1 in
       let four = neither (refusal_of_units words us) (stray_mark starts marks) aims.1 in
-      let parts = are_parted words small (none_of (barred sealed words) (λ at. Word at) one.0) (none_of (stuck sealed words) (λ at. Guard at) two.0) in
+      let parts = are_parted words small (none_of (unfit sealed words) (λ at. Word at) one.0) (none_of (gap sealed words) (λ at. Guard at) two.0) in
       let units = units_resolve words parts (none_of (astray_from starts 0 fs) (λ at. Target at) aims.0) in
       let ends = sound_units words us four.0 in
       let count : length starts ≡ length us = ap length parts.starts ∙ length-starts fs 0 ∙ sym units.count in

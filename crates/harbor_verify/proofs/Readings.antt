@@ -17,8 +17,8 @@ use Rattle.unit_code.specs.Beside.{StandBy, Stands, form_words, starts_from}
 use Rattle.harbor_spell.proofs.Fronts.{behind_encodable, front-stands}
 use Rattle.avr_isa.proofs.TableLaws.{decoded_length}
 use Rattle.harbor_spell.proofs.Starts.{form_words-some, instruction_length-some}
-use Rattle.harbor_verify.specs.Words.{followed, form_found, instructions, instructions_over, is_barred}
-use Rattle.harbor_verify.specs.Walks.{barred_from, barred_here, form_first, form_here, forms_over, permitted, start_here, starts_over, stuck_from, stuck_here}
+use Rattle.harbor_verify.specs.Words.{followed, form_found, instructions, instructions_over, is_unfit}
+use Rattle.harbor_verify.specs.Walks.{unfit_from, unfit_here, form_first, form_here, forms_over, permitted, start_here, starts_over, gap_from, gap_here}
 use Rattle.harbor_verify.proofs.ReadWords.{instructions-read}
 
 -- What the first word of some gives.
@@ -47,33 +47,33 @@ dropped zero w ws h = absurd (omega (arith, h))
 dropped (suc n) w ws h = ap (λ k. drop k ws) (omega arith)
 
 module _ (sealed : Bool) where
-  -- where nothing is barred, the words are those of their instructions
-  abbrev pub NoneBarred : List Instr → Type 0
-  NoneBarred is = AllByRecursion (λ i. (is_barred sealed) i ≡ false) is
+  -- where nothing is unfit, the words are those of their instructions
+  abbrev pub AreFit : List Instr → Type 0
+  AreFit is = AllByRecursion (λ i. (is_unfit sealed) i ≡ false) is
 
   abbrev WellRead : List ℕ → Type 0
-  WellRead words = AreWordsOf (instructions words) words × NoneBarred (instructions words)
+  WellRead words = AreWordsOf (instructions words) words × AreFit (instructions words)
 
-  not_barred : (b : Bool) (place : ℕ) (other : Option ℕ) → cond b (Some place) other ≡ None → (b ≡ false) × (other ≡ None)
-  not_barred true place other h = cc
-  not_barred false place other h = (refl, h)
+  not_unfit : (b : Bool) (place : ℕ) (other : Option ℕ) → cond b (Some place) other ≡ None → (b ≡ false) × (other ≡ None)
+  not_unfit true place other h = cc
+  not_unfit false place other h = (refl, h)
 
-  well_read : (w : ℕ) (ws : List ℕ) (i : Instr) → decoded w (next_word ws) ≡ Ok (i, instruction_length i) → instructions (w ∷ ws) ≡ i ∷ instructions (drop (instruction_length i) (w ∷ ws)) → (is_barred sealed) i ≡ false → WellRead (drop (instruction_length i) (w ∷ ws)) → WellRead (w ∷ ws)
+  well_read : (w : ℕ) (ws : List ℕ) (i : Instr) → decoded w (next_word ws) ≡ Ok (i, instruction_length i) → instructions (w ∷ ws) ≡ i ∷ instructions (drop (instruction_length i) (w ∷ ws)) → (is_unfit sealed) i ≡ false → WellRead (drop (instruction_length i) (w ∷ ws)) → WellRead (w ∷ ws)
   well_read w ws i e at good rest =
-      let P : List Instr → Type 0 = λ l. AreWordsOf l (w ∷ ws) × NoneBarred l in
+      let P : List Instr → Type 0 = λ l. AreWordsOf l (w ∷ ws) × AreFit l in
       subst P (sym at) ((e, rest.0), (good, rest.1))
 
-  pub not_barred_read : (words : List ℕ) (over place : ℕ) → (barred_from sealed) over place words ≡ None → WellRead (drop over words)
-  not_barred_read [] zero place h = let P : List Instr → Type 0 = λ l. AreWordsOf l [] × NoneBarred l in subst P (sym no_words) (refl, tt)
-  not_barred_read [] (suc over) place h = let P : List Instr → Type 0 = λ l. AreWordsOf l [] × NoneBarred l in subst P (sym no_words) (refl, tt)
-  not_barred_read (w ∷ ws) (suc over) place h = not_barred_read ws over (place + 1) h
-  not_barred_read (w ∷ ws) zero place h =
+  pub not_unfit_read : (words : List ℕ) (over place : ℕ) → (unfit_from sealed) over place words ≡ None → WellRead (drop over words)
+  not_unfit_read [] zero place h = let P : List Instr → Type 0 = λ l. AreWordsOf l [] × AreFit l in subst P (sym no_words) (refl, tt)
+  not_unfit_read [] (suc over) place h = let P : List Instr → Type 0 = λ l. AreWordsOf l [] × AreFit l in subst P (sym no_words) (refl, tt)
+  not_unfit_read (w ∷ ws) (suc over) place h = not_unfit_read ws over (place + 1) h
+  not_unfit_read (w ∷ ws) zero place h =
       elim (reads w ws) [
-        | nothing x e at ↦ let t : Some place ≡ None = sym (ap (λ l. (barred_here sealed) l place (λ over. (barred_from sealed) over (place + 1) ws)) at) ∙ h in absurd (none-some place (sym t))
+        | nothing x e at ↦ let t : Some place ≡ None = sym (ap (λ l. (unfit_here sealed) l place (λ over. (unfit_from sealed) over (place + 1) ws)) at) ∙ h in absurd (none-some place (sym t))
         | something i e at ↦
-            let t : cond ((is_barred sealed) i) (Some place) ((barred_from sealed) (instruction_length i - 1) (place + 1) ws) ≡ None = sym (ap (λ l. (barred_here sealed) l place (λ over. (barred_from sealed) over (place + 1) ws)) at) ∙ h in
-            let parts = not_barred ((is_barred sealed) i) place ((barred_from sealed) (instruction_length i - 1) (place + 1) ws) t in
-            let rest = not_barred_read ws (instruction_length i - 1) (place + 1) parts.1 in
+            let t : cond ((is_unfit sealed) i) (Some place) ((unfit_from sealed) (instruction_length i - 1) (place + 1) ws) ≡ None = sym (ap (λ l. (unfit_here sealed) l place (λ over. (unfit_from sealed) over (place + 1) ws)) at) ∙ h in
+            let parts = not_unfit ((is_unfit sealed) i) place ((unfit_from sealed) (instruction_length i - 1) (place + 1) ws) t in
+            let rest = not_unfit_read ws (instruction_length i - 1) (place + 1) parts.1 in
             let P : List ℕ → Type 0 = WellRead in
             well_read w ws i e at parts.0 (subst P (sym (dropped (instruction_length i) w ws (instruction_length-some i))) rest)
       ]
@@ -129,7 +129,7 @@ module _ (sealed : Bool) where
             ∙ ap (starts_from (place + 0)) (sym forms);
       }
 
-  pub parted : (words : List ℕ) (over place : ℕ) → AreAllEncodable (drop over words) → (stuck_from sealed) over place words ≡ None → Parted sealed over place words
+  pub parted : (words : List ℕ) (over place : ℕ) → AreAllEncodable (drop over words) → (gap_from sealed) over place words ≡ None → Parted sealed over place words
   parted [] zero place enc h = record { stand = no_words; starts = refl }
   parted [] (suc over) place enc h = record { stand = no_words; starts = refl }
   parted (w ∷ ws) (suc over) place enc h =
@@ -137,16 +137,16 @@ module _ (sealed : Bool) where
       record { stand = more.stand; starts = more.starts ∙ ap (λ k. starts_from k (forms_over over ws)) (omega arith) }
   parted (w ∷ ws) zero place enc h =
       elim (front (instructions (w ∷ ws))) as (λ o. front (instructions (w ∷ ws)) ≡ o → Parted sealed 0 place (w ∷ ws)) [
-        | None ↦ λ e. let t : Some place ≡ None = sym (ap (λ o. stuck_here o place (λ over. stuck_from sealed over (place + 1) ws)) (permitted_none sealed w ws e)) ∙ h in absurd (none-some place (sym t))
+        | None ↦ λ e. let t : Some place ≡ None = sym (ap (λ o. gap_here o place (λ over. gap_from sealed over (place + 1) ws)) (permitted_none sealed w ws e)) ∙ h in absurd (none-some place (sym t))
         | Some found ↦ λ e. elim (may_stand sealed found.0) as (λ m. may_stand sealed found.0 ≡ m → Parted sealed 0 place (w ∷ ws)) [
-          | false ↦ λ m. let t : Some place ≡ None = sym (ap (λ o. stuck_here o place (λ over. stuck_from sealed over (place + 1) ws)) (permitted_here sealed false found.0 found.1 w ws e m)) ∙ h in absurd (none-some place (sym t))
+          | false ↦ λ m. let t : Some place ≡ None = sym (ap (λ o. gap_here o place (λ over. gap_from sealed over (place + 1) ws)) (permitted_here sealed false found.0 found.1 w ws e m)) ∙ h in absurd (none-some place (sym t))
           | true ↦ λ m.
               let f = found.0 in
               let stands : Stands sealed f (instructions (w ∷ ws)) found.1 = front-stands sealed (instructions (w ∷ ws)) f found.1 enc e m in
               let some : 0 < form_words f = form_words-some f stands.kind in
               let at : found.1 ≡ instructions (drop (form_words f - 1) ws) = behind_words (template f) found.1 (w ∷ ws) stands.words ∙ ap instructions (dropped (form_words f) w ws some) in
               let P : List Instr → Type 0 = AllByRecursion IsEncodable in
-              let t : stuck_from sealed (form_words f - 1) (place + 1) ws ≡ None = sym (ap (λ o. stuck_here o place (λ over. stuck_from sealed over (place + 1) ws)) (permitted_here sealed true f found.1 w ws e m)) ∙ h in
+              let t : gap_from sealed (form_words f - 1) (place + 1) ws ≡ None = sym (ap (λ o. gap_here o place (λ over. gap_from sealed over (place + 1) ws)) (permitted_here sealed true f found.1 w ws e m)) ∙ h in
               form_parted w ws place f found.1 e stands at (parted ws (form_words f - 1) (place + 1) (subst P at (behind_encodable sealed f (instructions (w ∷ ws)) found.1 enc stands)) t)
         ] refl
       ] refl

@@ -14,7 +14,7 @@ use Rattle.harbor_spell.specs.declared.opening.Opening.TheVariants.{Alone, Skipp
 use Rattle.unit_code.specs.declared.unit.Unit.TheVariants as unit
 use Rattle.unit_code.specs.declared.kinds.Standing.TheVariants.{Part}
 use Rattle.unit_code.specs.declared.kinds.Piece.TheVariants as piece
-use Rattle.harbor_spell.specs.Front.{Found, branching, called_local, calling_local, candidate, continued, front, group_end, group_from, grouping, guarded, guarding, guards, is_jump_over, is_one, is_out, is_several, itself, jump_offset, long_skip, opened, opening, over_a_jump, settled, several, skipping, turned}
+use Rattle.harbor_spell.specs.Front.{Found, branching, called_local, calling_local, first_match, continued, front, group_end, group_from, grouping, guarded, guarding, guards, is_jump_over, is_one, is_out, is_several, behind_guard, jump_offset, long_skip, opened, opening, over_a_jump, settled, several, skipping, inverted}
 use Rattle.harbor_verify.specs.Words.{form_found, settled_form}
 
 -- where a short skip was found, what is left is what is behind the first instruction
@@ -48,16 +48,16 @@ skip_rest : (i : Instr) (rest : List Instr) → ShortRest rest (skipping i rest)
 skip_rest i [] = refl
 skip_rest i (j ∷ b) = by_choice (j ∷ b) (is_jump_over (jump_offset j)) (long_skip i b) (Some (ShortSkip i, j ∷ b)) (long_rest (j ∷ b) i b) refl
 
-turned_rest : (rest : List Instr) (set : Bool) (bit : ℕ) (o : Option ℤ) (j : Instr) (b : List Instr) → ShortRest rest (turned set bit o j b)
-turned_rest rest set bit None j b = tt
-turned_rest rest set bit (Some k) j b = tt
+inverted_rest : (rest : List Instr) (set : Bool) (bit : ℕ) (o : Option ℤ) (j : Instr) (b : List Instr) → ShortRest rest (inverted set bit o j b)
+inverted_rest rest set bit None j b = tt
+inverted_rest rest set bit (Some k) j b = tt
 
 branch_rest : (set : Bool) (bit : ℕ) (k : ℤ) (rest : List Instr) → ShortRest rest (branching set bit k rest)
 branch_rest set bit k [] = tt
-branch_rest set bit k (j ∷ b) = by_choice (j ∷ b) (is_one k) (turned set bit (jump_offset j) j b) (Some (ShortBranch set bit k, j ∷ b)) (turned_rest (j ∷ b) set bit (jump_offset j) j b) tt
+branch_rest set bit k (j ∷ b) = by_choice (j ∷ b) (is_one k) (inverted set bit (jump_offset j) j b) (Some (ShortBranch set bit k, j ∷ b)) (inverted_rest (j ∷ b) set bit (jump_offset j) j b) tt
 
 guarded_rest : (rest : List Instr) (a : ℕ) (i : Instr) (st : Standing) (b : List Instr) → ShortRest rest (guarded a i st b)
-guarded_rest rest a i (Part (piece.Whole u)) b = by_choice rest (guards a (itself i u)) (Some (Whole (itself i u), b)) None tt tt
+guarded_rest rest a i (Part (piece.Whole u)) b = by_choice rest (guards a (behind_guard i u)) (Some (Whole (behind_guard i u), b)) None tt tt
 guarded_rest rest a i _ b = tt
 
 guard_rest : (a : ℕ) (rest : List Instr) → ShortRest rest (guarding a rest)
@@ -101,31 +101,31 @@ no : (o : Found) → None ≡ form_found o → None ≡ form_found (settled o)
 no None e = refl
 no (Some (f, b)) e = absurd (none-some f e)
 
-settle : (rest : List Instr) (o : Found) (f : Form) → ShortRest rest o → Some f ≡ form_found o → settled_form f (is_several (candidate rest)) ≡ form_found (settled o)
+settle : (rest : List Instr) (o : Found) (f : Form) → ShortRest rest o → Some f ≡ form_found o → settled_form f (is_several (first_match rest)) ≡ form_found (settled o)
 settle rest None f h e = absurd (none-some f (sym e))
 settle rest (Some (ShortSkip x, b)) f h e =
-    ap (λ g. settled_form g (is_several (candidate rest))) (same_Some f (ShortSkip x) e)
-    ∙ ap (λ l. settled_form (ShortSkip x) (is_several (candidate l))) (sym h)
-    ∙ two (is_several (candidate b)) x b
-settle rest (Some (Whole u, b)) f h e = ap (λ g. settled_form g (is_several (candidate rest))) (same_Some f (Whole u) e)
-settle rest (Some (LongSkip x k, b)) f h e = ap (λ g. settled_form g (is_several (candidate rest))) (same_Some f (LongSkip x k) e)
-settle rest (Some (ShortBranch set bit k, b)) f h e = ap (λ g. settled_form g (is_several (candidate rest))) (same_Some f (ShortBranch set bit k) e)
-settle rest (Some (LongBranch set bit k, b)) f h e = ap (λ g. settled_form g (is_several (candidate rest))) (same_Some f (LongBranch set bit k) e)
-settle rest (Some (Jumping k, b)) f h e = ap (λ g. settled_form g (is_several (candidate rest))) (same_Some f (Jumping k) e)
-settle rest (Some (Calling k, b)) f h e = ap (λ g. settled_form g (is_several (candidate rest))) (same_Some f (Calling k) e)
+    ap (λ g. settled_form g (is_several (first_match rest))) (same_Some f (ShortSkip x) e)
+    ∙ ap (λ l. settled_form (ShortSkip x) (is_several (first_match l))) (sym h)
+    ∙ two (is_several (first_match b)) x b
+settle rest (Some (Whole u, b)) f h e = ap (λ g. settled_form g (is_several (first_match rest))) (same_Some f (Whole u) e)
+settle rest (Some (LongSkip x k, b)) f h e = ap (λ g. settled_form g (is_several (first_match rest))) (same_Some f (LongSkip x k) e)
+settle rest (Some (ShortBranch set bit k, b)) f h e = ap (λ g. settled_form g (is_several (first_match rest))) (same_Some f (ShortBranch set bit k) e)
+settle rest (Some (LongBranch set bit k, b)) f h e = ap (λ g. settled_form g (is_several (first_match rest))) (same_Some f (LongBranch set bit k) e)
+settle rest (Some (Jumping k, b)) f h e = ap (λ g. settled_form g (is_several (first_match rest))) (same_Some f (Jumping k) e)
+settle rest (Some (Calling k, b)) f h e = ap (λ g. settled_form g (is_several (first_match rest))) (same_Some f (Calling k) e)
 
-pub settled_some : (is : List Instr) (i : Instr) (rest : List Instr) (f : Form) → is ≡ i ∷ rest → Some f ≡ form_found (continued i (opening i) rest) → settled_form f (is_several (candidate rest)) ≡ form_found (front is)
+pub settled_some : (is : List Instr) (i : Instr) (rest : List Instr) (f : Form) → is ≡ i ∷ rest → Some f ≡ form_found (continued i (opening i) rest) → settled_form f (is_several (first_match rest)) ≡ form_found (front is)
 unfolding front
 settled_some is i rest f at e =
-    settle rest (continued i (opening i) rest) f (short_rest i (opening i) rest) e ∙ ap (λ l. form_found (settled (candidate l))) (sym at)
+    settle rest (continued i (opening i) rest) f (short_rest i (opening i) rest) e ∙ ap (λ l. form_found (settled (first_match l))) (sym at)
 
 pub settled_none : (is : List Instr) (i : Instr) (rest : List Instr) → is ≡ i ∷ rest → None ≡ form_found (continued i (opening i) rest) → None ≡ form_found (front is)
 unfolding front
-settled_none is i rest at e = no (continued i (opening i) rest) e ∙ ap (λ l. form_found (settled (candidate l))) (sym at)
+settled_none is i rest at e = no (continued i (opening i) rest) e ∙ ap (λ l. form_found (settled (first_match l))) (sym at)
 
 pub settled_empty : (is : List Instr) → is ≡ [] → None ≡ form_found (front is)
 unfolding front
-settled_empty is at = ap (λ l. form_found (settled (candidate l))) (sym at)
+settled_empty is at = ap (λ l. form_found (settled (first_match l))) (sym at)
 
 pub ruleset settled_forms = (settled_some, settled_none, settled_empty)
 

@@ -29,7 +29,7 @@ use Rattle.harbor_verify.specs.declared.error.VerifyError.TheVariants.{FallsOff,
 use Rattle.harbor_verify.specs.Aims.{astray, astray_from, before, can_pass, is_at, is_group_form, is_last, leads, unless}
 use Rattle.harbor_verify.specs.Parts.{ArePartsOf, IsAccepted}
 use Rattle.harbor_verify.specs.Verdict.{or_else, refusal, refusal_of_units, stray_mark, units_in}
-use Rattle.harbor_verify.specs.Walks.{barred, forms_in, starts_in, stuck}
+use Rattle.harbor_verify.specs.Walks.{unfit, forms_in, starts_in, gap}
 use Rattle.harbor_verify.specs.Words.{instructions}
 use Rattle.harbor_verify.proofs.Chain.{by_targets, past_templates}
 use Rattle.harbor_verify.proofs.Converse.{free_words, templates_free, templates_walked, words_read}
@@ -95,8 +95,8 @@ module _ (starts : List ℕ) (first : AreFirstWords starts) where
 
 module _ (sealed : Bool) where
   -- words that are laid out of templates have them at each place
-  pub laid_parts : (words : List ℕ) (us : List Unit) (starts : List ℕ) → Words16 words → Lays words sealed us starts → (barred sealed words ≡ None) × (stuck sealed words ≡ None)
-  unfolding barred stuck
+  pub laid_parts : (words : List ℕ) (us : List Unit) (starts : List ℕ) → Words16 words → Lays words sealed us starts → (unfit sealed words ≡ None) × (gap sealed words ≡ None)
+  unfolding unfit gap
   laid_parts words us starts small h =
       let a = h.1 in
       let fs = forms_from starts 0 us h.0 in

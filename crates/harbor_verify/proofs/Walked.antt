@@ -5,8 +5,8 @@ use Rattle.avr_isa.specs.declared.instruction.Instr.{Instr}
 use Rattle.unit_code.specs.Lengths.{instruction_length}
 use Rattle.unit_code.specs.declared.form.Form.{Form}
 use Rattle.unit_code.specs.Beside.{form_words}
-use Rattle.harbor_verify.specs.Words.{instructions, is_barred}
-use Rattle.harbor_verify.specs.Walks.{barred_from, barred_here, form_first, permitted, start_here, starts_over, stuck_from, stuck_here}
+use Rattle.harbor_verify.specs.Words.{instructions, is_unfit}
+use Rattle.harbor_verify.specs.Walks.{unfit_from, unfit_here, form_first, permitted, start_here, starts_over, gap_from, gap_here}
 use Rattle.harbor_spell.specs.Front.{may_stand}
 
 -- words that belong to what came before are passed
@@ -43,20 +43,20 @@ module _ (sealed : Bool) (words : List ℕ) (place next : ℕ) (within : place <
   here : instructions (drop place words) ≡ instructions (w ∷ ws)
   here = ap instructions (drop_more words place 0 within)
 
-  pub barred_none : next ≤ place → instructions (drop place words) ≡ [] → (barred_from sealed) (next - place) place (drop place words) ≡ Some place
-  barred_none past none =
-      looked (barred_from sealed) words place next within past ∙ ap (λ l. (barred_here sealed) l place (λ over. (barred_from sealed) over (place + 1) ws)) (sym here ∙ none)
+  pub unfit_none : next ≤ place → instructions (drop place words) ≡ [] → (unfit_from sealed) (next - place) place (drop place words) ≡ Some place
+  unfit_none past none =
+      looked (unfit_from sealed) words place next within past ∙ ap (λ l. (unfit_here sealed) l place (λ over. (unfit_from sealed) over (place + 1) ws)) (sym here ∙ none)
 
-  barred_some : (i : Instr) (rest : List Instr) → next ≤ place → instructions (drop place words) ≡ i ∷ rest → (barred_from sealed) (next - place) place (drop place words) ≡ cond ((is_barred sealed) i) (Some place) ((barred_from sealed) (instruction_length i - 1) (place + 1) ws)
-  barred_some i rest past is =
-      looked (barred_from sealed) words place next within past ∙ ap (λ l. (barred_here sealed) l place (λ over. (barred_from sealed) over (place + 1) ws)) (sym here ∙ is)
+  unfit_some : (i : Instr) (rest : List Instr) → next ≤ place → instructions (drop place words) ≡ i ∷ rest → (unfit_from sealed) (next - place) place (drop place words) ≡ cond ((is_unfit sealed) i) (Some place) ((unfit_from sealed) (instruction_length i - 1) (place + 1) ws)
+  unfit_some i rest past is =
+      looked (unfit_from sealed) words place next within past ∙ ap (λ l. (unfit_here sealed) l place (λ over. (unfit_from sealed) over (place + 1) ws)) (sym here ∙ is)
 
-  pub barred_bad : (i : Instr) (rest : List Instr) → next ≤ place → instructions (drop place words) ≡ i ∷ rest → (is_barred sealed) i ≡ true → (barred_from sealed) (next - place) place (drop place words) ≡ Some place
-  barred_bad i rest past is bad = barred_some i rest past is ∙ ap (λ b. cond b (Some place) ((barred_from sealed) (instruction_length i - 1) (place + 1) ws)) bad
+  pub unfit_bad : (i : Instr) (rest : List Instr) → next ≤ place → instructions (drop place words) ≡ i ∷ rest → (is_unfit sealed) i ≡ true → (unfit_from sealed) (next - place) place (drop place words) ≡ Some place
+  unfit_bad i rest past is bad = unfit_some i rest past is ∙ ap (λ b. cond b (Some place) ((unfit_from sealed) (instruction_length i - 1) (place + 1) ws)) bad
 
-  pub barred_good : (i : Instr) (rest : List Instr) (behind : ℕ) → next ≤ place → instructions (drop place words) ≡ i ∷ rest → (is_barred sealed) i ≡ false → behind ≡ place + instruction_length i → (barred_from sealed) (next - place) place (drop place words) ≡ (barred_from sealed) (behind - (place + 1)) (place + 1) ws
-  barred_good i rest behind past is good at =
-      barred_some i rest past is ∙ ap (λ b. cond b (Some place) ((barred_from sealed) (instruction_length i - 1) (place + 1) ws)) good ∙ ap (λ over. (barred_from sealed) over (place + 1) ws) (omega (arith, at))
+  pub unfit_good : (i : Instr) (rest : List Instr) (behind : ℕ) → next ≤ place → instructions (drop place words) ≡ i ∷ rest → (is_unfit sealed) i ≡ false → behind ≡ place + instruction_length i → (unfit_from sealed) (next - place) place (drop place words) ≡ (unfit_from sealed) (behind - (place + 1)) (place + 1) ws
+  unfit_good i rest behind past is good at =
+      unfit_some i rest past is ∙ ap (λ b. cond b (Some place) ((unfit_from sealed) (instruction_length i - 1) (place + 1) ws)) good ∙ ap (λ over. (unfit_from sealed) over (place + 1) ws) (omega (arith, at))
 
   form_there : (o : Option Form) → o ≡ form_first (drop place words) → form_first (w ∷ ws) ≡ o
   form_there o e = ap form_first (sym (drop_more words place 0 within)) ∙ sym e
@@ -64,13 +64,13 @@ module _ (sealed : Bool) (words : List ℕ) (place next : ℕ) (within : place <
   permitted_there : (o : Option Form) → o ≡ permitted sealed (form_first (drop place words)) → permitted sealed (form_first (w ∷ ws)) ≡ o
   permitted_there o e = ap (λ l. permitted sealed (form_first l)) (sym (drop_more words place 0 within)) ∙ sym e
 
-  pub stuck_none : next ≤ place → None ≡ permitted sealed (form_first (drop place words)) → (stuck_from sealed) (next - place) place (drop place words) ≡ Some place
-  stuck_none past e =
-      looked (stuck_from sealed) words place next within past ∙ ap (λ o. stuck_here o place (λ over. (stuck_from sealed) over (place + 1) ws)) (permitted_there None e)
+  pub gap_none : next ≤ place → None ≡ permitted sealed (form_first (drop place words)) → (gap_from sealed) (next - place) place (drop place words) ≡ Some place
+  gap_none past e =
+      looked (gap_from sealed) words place next within past ∙ ap (λ o. gap_here o place (λ over. (gap_from sealed) over (place + 1) ws)) (permitted_there None e)
 
-  pub stuck_some : (f : Form) (behind : ℕ) → next ≤ place → Some f ≡ permitted sealed (form_first (drop place words)) → behind ≡ place + form_words f → (stuck_from sealed) (next - place) place (drop place words) ≡ (stuck_from sealed) (behind - (place + 1)) (place + 1) ws
-  stuck_some f behind past e at =
-      looked (stuck_from sealed) words place next within past ∙ ap (λ o. stuck_here o place (λ over. (stuck_from sealed) over (place + 1) ws)) (permitted_there (Some f) e) ∙ ap (λ over. (stuck_from sealed) over (place + 1) ws) (omega (arith, at))
+  pub gap_some : (f : Form) (behind : ℕ) → next ≤ place → Some f ≡ permitted sealed (form_first (drop place words)) → behind ≡ place + form_words f → (gap_from sealed) (next - place) place (drop place words) ≡ (gap_from sealed) (behind - (place + 1)) (place + 1) ws
+  gap_some f behind past e at =
+      looked (gap_from sealed) words place next within past ∙ ap (λ o. gap_here o place (λ over. (gap_from sealed) over (place + 1) ws)) (permitted_there (Some f) e) ∙ ap (λ over. (gap_from sealed) over (place + 1) ws) (omega (arith, at))
 
   pub starts_some : (f : Form) (behind : ℕ) → next ≤ place → Some f ≡ form_first (drop place words) → behind ≡ place + form_words f → starts_over (next - place) place (drop place words) ≡ place ∷ starts_over (behind - (place + 1)) (place + 1) ws
   starts_some f behind past e at =

@@ -21,11 +21,11 @@ use Rattle.unit_code.specs.Beside.{StandBy, Stands, forms_words, starts_from}
 use Rattle.unit_code.specs.Spelling.{Lays, start_of}
 use Rattle.harbor_verify.specs.declared.error.VerifyError.{VerifyError}
 use Rattle.harbor_verify.specs.declared.error.VerifyError.TheVariants.{Word, Guard, Target, FallsOff, Empty, TooLong, Entry}
-use Rattle.harbor_verify.specs.Words.{is_barred}
+use Rattle.harbor_verify.specs.Words.{is_unfit}
 
 abbrev pub IsBadRead : Bool → Result (Instr × ℕ) DecodeError → Type 0
 IsBadRead sealed (Err e) = ⊤
-IsBadRead sealed (Ok (i, n)) = is_barred sealed i ≡ true
+IsBadRead sealed (Ok (i, n)) = is_unfit sealed i ≡ true
 
 -- The words begin with no instruction, with one that is cut short, or with one that stands in no template.
 abbrev pub BeginBadly : Bool → List ℕ → Type 0

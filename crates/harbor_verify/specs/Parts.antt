@@ -3,7 +3,7 @@ use Rattle.std.specs.Prelude.{◌≡◌, ℕ, ◌^◌, ◌<◌, ◌≤◌, Bool,
 use Rattle.std.specs.List.{AllByRecursion}
 use Rattle.unit_code.specs.declared.unit.Unit.{Unit}
 use Rattle.unit_code.specs.Spelling.{Spells}
-use Rattle.harbor_verify.specs.Walks.{barred, forms_in, starts_in, stuck}
+use Rattle.harbor_verify.specs.Walks.{unfit, forms_in, starts_in, gap}
 use Rattle.harbor_verify.specs.Aims.{astray_from}
 
 -- In an image that is sealed or not the words are templates side by side, which start so.
@@ -11,8 +11,8 @@ pub record ArePartsOf (words starts : List ℕ) : Type 0 where
   pub sealed : Bool
   pub few : length words ≤ 65535
   pub small : AllByRecursion (λ w. w < 2 ^ 16) words
-  pub read : barred sealed words ≡ None
-  pub stand : stuck sealed words ≡ None
+  pub read : unfit sealed words ≡ None
+  pub stand : gap sealed words ≡ None
   pub places : starts ≡ starts_in words
 
 -- No template goes astray.

@@ -7,7 +7,7 @@ use Rattle.unit_code.specs.Refusals.{is_empty, least_stray}
 use Rattle.harbor_verify.specs.declared.error.VerifyError.{VerifyError}
 use Rattle.harbor_verify.specs.declared.error.VerifyError.TheVariants.{Word, Guard, Target, FallsOff, Empty, TooLong, Entry}
 use Rattle.harbor_verify.specs.Aims.{astray_from, units_from}
-use Rattle.harbor_verify.specs.Walks.{barred, forms_in, starts_in, stuck}
+use Rattle.harbor_verify.specs.Walks.{unfit, forms_in, starts_in, gap}
 
 abbrev pub or_else : Option VerifyError → Option VerifyError → Option VerifyError
 or_else (Some e) other = Some e
@@ -18,10 +18,10 @@ unfoldable pub units_in : List ℕ → List Unit
 units_in words = units_from (starts_in words) 0 (forms_in words)
 
 unfoldable pub refusal_of_words : Bool → List ℕ → Option VerifyError
-refusal_of_words sealed words = option_map (λ at. Word at) (barred sealed words)
+refusal_of_words sealed words = option_map (λ at. Word at) (unfit sealed words)
 
 unfoldable pub refusal_of_templates : Bool → List ℕ → Option VerifyError
-refusal_of_templates sealed words = option_map (λ at. Guard at) (stuck sealed words)
+refusal_of_templates sealed words = option_map (λ at. Guard at) (gap sealed words)
 
 unfoldable pub refusal_of_targets : List ℕ → Option VerifyError
 refusal_of_targets words = option_map (λ at. Target at) (astray_from (starts_in words) 0 (forms_in words))

@@ -5,18 +5,18 @@ use Rattle.unit_code.specs.Lengths.{instruction_length}
 use Rattle.unit_code.specs.declared.form.Form.{Form}
 use Rattle.harbor_spell.specs.Front.{front, may_stand}
 use Rattle.unit_code.specs.Beside.{form_words}
-use Rattle.harbor_verify.specs.Words.{form_found, instructions, is_barred}
+use Rattle.harbor_verify.specs.Words.{form_found, instructions, is_unfit}
 
-abbrev pub barred_here : Bool → List Instr → ℕ → (ℕ → Option ℕ) → Option ℕ
-barred_here sealed [] place behind = Some place
-barred_here sealed (i ∷ is) place behind = if is_barred sealed i then Some place else behind (instruction_length i - 1)
+abbrev pub unfit_here : Bool → List Instr → ℕ → (ℕ → Option ℕ) → Option ℕ
+unfit_here sealed [] place behind = Some place
+unfit_here sealed (i ∷ is) place behind = if is_unfit sealed i then Some place else behind (instruction_length i - 1)
 
 -- The first place where no permitted instruction stands, from a place on. The first argument is the number of words
 -- that still belong to the instruction before.
-abbrev pub barred_from : Bool → ℕ → ℕ → List ℕ → Option ℕ
-barred_from sealed over place [] = None
-barred_from sealed zero place (w ∷ ws) = barred_here sealed (instructions (w ∷ ws)) place (λ over. barred_from sealed over (place + 1) ws)
-barred_from sealed (suc over) place (w ∷ ws) = barred_from sealed over (place + 1) ws
+abbrev pub unfit_from : Bool → ℕ → ℕ → List ℕ → Option ℕ
+unfit_from sealed over place [] = None
+unfit_from sealed zero place (w ∷ ws) = unfit_here sealed (instructions (w ∷ ws)) place (λ over. unfit_from sealed over (place + 1) ws)
+unfit_from sealed (suc over) place (w ∷ ws) = unfit_from sealed over (place + 1) ws
 
 -- the form that the words begin with
 abbrev pub form_first : List ℕ → Option Form
@@ -27,16 +27,16 @@ abbrev pub permitted : Bool → Option Form → Option Form
 permitted sealed None = None
 permitted sealed (Some f) = if may_stand sealed f then Some f else None
 
-abbrev pub stuck_here : Option Form → ℕ → (ℕ → Option ℕ) → Option ℕ
-stuck_here None place behind = Some place
-stuck_here (Some f) place behind = behind (form_words f - 1)
+abbrev pub gap_here : Option Form → ℕ → (ℕ → Option ℕ) → Option ℕ
+gap_here None place behind = Some place
+gap_here (Some f) place behind = behind (form_words f - 1)
 
 -- The first place, template by template, where none stands that may stand in the image.
-abbrev pub stuck_from : Bool → ℕ → ℕ → List ℕ → Option ℕ
-stuck_from sealed over place [] = None
-stuck_from sealed zero place (w ∷ ws) =
-    stuck_here (permitted sealed (form_first (w ∷ ws))) place (λ over. stuck_from sealed over (place + 1) ws)
-stuck_from sealed (suc over) place (w ∷ ws) = stuck_from sealed over (place + 1) ws
+abbrev pub gap_from : Bool → ℕ → ℕ → List ℕ → Option ℕ
+gap_from sealed over place [] = None
+gap_from sealed zero place (w ∷ ws) =
+    gap_here (permitted sealed (form_first (w ∷ ws))) place (λ over. gap_from sealed over (place + 1) ws)
+gap_from sealed (suc over) place (w ∷ ws) = gap_from sealed over (place + 1) ws
 
 abbrev pub start_here : Option Form → ℕ → (ℕ → List ℕ) → List ℕ
 start_here None place behind = []
@@ -58,11 +58,11 @@ forms_over over [] = []
 forms_over zero (w ∷ ws) = form_here (form_first (w ∷ ws)) (λ over. forms_over over ws)
 forms_over (suc over) (w ∷ ws) = forms_over over ws
 
-unfoldable pub barred : Bool → List ℕ → Option ℕ
-barred sealed words = barred_from sealed 0 0 words
+unfoldable pub unfit : Bool → List ℕ → Option ℕ
+unfit sealed words = unfit_from sealed 0 0 words
 
-unfoldable pub stuck : Bool → List ℕ → Option ℕ
-stuck sealed words = stuck_from sealed 0 0 words
+unfoldable pub gap : Bool → List ℕ → Option ℕ
+gap sealed words = gap_from sealed 0 0 words
 
 unfoldable pub starts_in : List ℕ → List ℕ
 starts_in words = starts_over 0 0 words

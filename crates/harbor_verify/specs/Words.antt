@@ -37,9 +37,9 @@ abbrev pub settled_form : Form → Bool → Option Form
 settled_form (ShortSkip i) several = if several then None else Some (ShortSkip i)
 settled_form f several = Some f
 
-abbrev pub is_barred_kind : Standing → Bool
-is_barred_kind (Barred kind) = not (kind == 5)
-is_barred_kind _ = false
+abbrev pub is_unfit_kind : Standing → Bool
+is_unfit_kind (Barred kind) = not (kind == 5)
+is_unfit_kind _ = false
 
 -- whether an entry of the page may be called: not that of returns, to which a jump leads, and the guards of loads in a
 -- sealed image alone
@@ -63,7 +63,7 @@ is_callable sealed address = nat_lt address (2 ^ 16) && may_enter sealed (entry_
 
 -- an instruction that stands in no template of an image that is sealed or not: of a refused kind, but for calls of
 -- entries and the jump to the entry of returns. The writes of SP's bytes stand in the template of a group.
-abbrev pub is_barred : Bool → Instr → Bool
-is_barred sealed (instr.Call address) = not (is_callable sealed address)
-is_barred sealed (instr.Jmp address) = not (address == address_of entry.Return)
-is_barred sealed i = is_barred_kind (standing_of i)
+abbrev pub is_unfit : Bool → Instr → Bool
+is_unfit sealed (instr.Call address) = not (is_callable sealed address)
+is_unfit sealed (instr.Jmp address) = not (address == address_of entry.Return)
+is_unfit sealed i = is_unfit_kind (standing_of i)

@@ -2,12 +2,14 @@
 
 ghost use Rattle.std.specs.Prelude.{◌≡◌, ◌≤◌, List, Some, drop, length};
 ghost use Rattle.avr_isa.specs.declared.instruction.Instr.{Instr};
-ghost use Rattle.harbor_spell.specs.Front.{Found, branching, calling_local, candidate, continued, group_end, group_from, grouping, guarded, guarding, is_several, long_skip, may_stand, skipping, turned};
+ghost use Rattle.harbor_spell.specs.Front.{Found, branching, calling_local, first_match, continued, group_end, group_from, grouping, guarded, guarding, is_several, long_skip, may_stand, skipping, inverted};
 ghost use Rattle.harbor_verify.specs.Words.{form_found, instructions, settled_form};
 ghost use Rattle.harbor_verify.specs.Walks.{form_first, permitted};
 
 use crate::instructions::instruction_at;
-use crate::opening::{guards, is_jump_over, is_one, is_out, itself, jump_offset, opening, several};
+use crate::opening::{
+    behind_guard, guards, is_jump_over, is_one, is_out, jump_offset, opening, several,
+};
 use avr_isa::Instr;
 use harbor_spell::Opening;
 use mote_base::Words;
@@ -52,7 +54,7 @@ fn may_stand(sealed: bool, form: &Form) -> bool
 /// The form, unless it is a short skip over a template of several instructions.
 fn settled(code: &Words<'_>, form: Form, next: usize) -> Option<Form>
     requires { next ≤ length code.now }
-    ensures { result ≡ settled_form form (is_several (candidate (instructions (drop next code.now)))) }
+    ensures { result ≡ settled_form form (is_several (first_match (instructions (drop next code.now)))) }
 {
     match form {
         Form::ShortSkip(_) => {
@@ -67,9 +69,9 @@ fn settled(code: &Words<'_>, form: Form, next: usize) -> Option<Form>
 }
 
 /// The form that the words at a place begin with, whatever a short skip there passes over.
-fn candidate(code: &Words<'_>, place: usize) -> Option<Form>
+fn first_match(code: &Words<'_>, place: usize) -> Option<Form>
     requires { place ≤ length code.now }
-    ensures { result ≡ form_found (candidate (instructions (drop place code.now))) }
+    ensures { result ≡ form_found (first_match (instructions (drop place code.now))) }
 {
     let (instruction, behind) = instruction_at(code, place)?;
     continued(code, instruction, opening(instruction), behind)
@@ -121,14 +123,14 @@ fn branching(code: &Words<'_>, set: bool, bit: u8, offset: i16, next: usize) -> 
         return Some(Form::ShortBranch { set, bit, offset });
     };
     if is_one(offset) {
-        Some(turned(set, bit, jump_offset(jump)))
+        Some(inverted(set, bit, jump_offset(jump)))
     } else {
         Some(Form::ShortBranch { set, bit, offset })
     }
 }
 
-fn turned(set: bool, bit: u8, offset: Option<i16>) -> Form
-    ensures { (j : Instr) (behind : List Instr) → Some result ≡ form_found (turned set bit offset j behind) }
+fn inverted(set: bool, bit: u8, offset: Option<i16>) -> Form
+    ensures { (j : Instr) (behind : List Instr) → Some result ≡ form_found (inverted set bit offset j behind) }
 {
     match offset {
         Some(offset) => Form::LongBranch {
@@ -157,7 +159,7 @@ fn guarded(address: u32, instruction: Instr, standing: Standing) -> Option<Form>
 {
     match standing {
         Standing::Part(Piece::Whole(unit)) => {
-            let unit = itself(instruction, unit);
+            let unit = behind_guard(instruction, unit);
             if guards(address, unit) {
                 Some(Form::Whole(unit))
             } else {
@@ -216,9 +218,9 @@ fn group_end(code: &Words<'_>, with_sreg: bool, next: usize) -> Option<Form>
 /// Whether a template of several instructions stands at a place.
 fn begins_several(code: &Words<'_>, place: usize) -> bool
     requires { place ≤ length code.now }
-    ensures { result ≡ is_several (candidate (instructions (drop place code.now))) }
+    ensures { result ≡ is_several (first_match (instructions (drop place code.now))) }
 {
-    form_is_several(candidate(code, place))
+    form_is_several(first_match(code, place))
 }
 
 fn form_is_several(form: Option<Form>) -> bool

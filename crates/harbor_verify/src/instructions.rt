@@ -5,7 +5,7 @@ ghost use Rattle.avr_isa.specs.Decoded.{decoded};
 ghost use Rattle.avr_isa.specs.Operands.{IsEncodable};
 ghost use Rattle.unit_code.specs.Items.{next_word};
 ghost use Rattle.unit_code.specs.Lengths.{instruction_length};
-ghost use Rattle.harbor_verify.specs.Words.{instructions, is_barred, is_barred_kind, is_callable, may_enter};
+ghost use Rattle.harbor_verify.specs.Words.{instructions, is_unfit, is_unfit_kind, is_callable, may_enter};
 
 use avr_isa::{Instr, decode};
 use mote_base::Words;
@@ -45,18 +45,18 @@ fn word_at(code: &Words<'_>, index: usize) -> Option<u16>
 }
 
 /// Whether an instruction stands in no template of an image that is sealed or not.
-pub fn is_barred(sealed: bool, instruction: Instr) -> bool
-    ensures { result ≡ is_barred sealed instruction }
+pub fn is_unfit(sealed: bool, instruction: Instr) -> bool
+    ensures { result ≡ is_unfit sealed instruction }
 {
     match instruction {
         Instr::Call(address) => !is_callable(sealed, address),
         Instr::Jmp(address) => address != u32::from(RETURN_ENTRY),
-        _ => is_barred_kind(standing_of(instruction)),
+        _ => is_unfit_kind(standing_of(instruction)),
     }
 }
 
-fn is_barred_kind(standing: Standing) -> bool
-    ensures { result ≡ is_barred_kind standing }
+fn is_unfit_kind(standing: Standing) -> bool
+    ensures { result ≡ is_unfit_kind standing }
 {
     match standing {
         Standing::Barred(kind) => kind != 5,

@@ -1,4 +1,4 @@
-//! How many words templates have.
+//! The lengths of templates in words.
 
 ghost use Rattle.std.specs.Prelude.{◌≡◌, ◌≤◌};
 ghost use Rattle.unit_code.specs.Lengths.{instruction_length};

@@ -1,7 +1,7 @@
 //! What an instruction begins.
 
 ghost use Rattle.std.specs.Prelude.{◌≡◌, ◌==◌, if◌then◌else◌};
-ghost use Rattle.harbor_spell.specs.Front.{called, calling, guards, is_jump_over, is_one, is_out, itself, jump_offset, opened, opening, several};
+ghost use Rattle.harbor_spell.specs.Front.{called, calling, guards, is_jump_over, is_one, is_out, behind_guard, jump_offset, opened, opening, several};
 ghost use Rattle.unit_code.specs.Templates.{address_of};
 
 use avr_isa::Instr;
@@ -118,8 +118,8 @@ pub fn guards(address: u32, unit: Unit) -> bool
     }
 }
 
-pub fn itself(instruction: Instr, unit: Unit) -> Unit
-    ensures { result ≡ itself instruction unit }
+pub fn behind_guard(instruction: Instr, unit: Unit) -> Unit
+    ensures { result ≡ behind_guard instruction unit }
 {
     match unit {
         Unit::Store(_) => Unit::Store(instruction),

@@ -17,8 +17,7 @@ use unit_code::{BankCode, Form, Unit, number_reached};
 
 /// The units that accepted words spell, with the words and the starts.
 pub fn read_units(alloc: Global, code: &Words<'_>, starts: &Starts) -> Result<BankCode, NoMemory>
-    requires few { length code.now ≤ 65535 }
-    requires accepted { IsAccepted code.now starts.now }
+    requires { IsAccepted code.now starts.now }
     ensures units { IfOk result (λ bank. (marks : List ℕ) (sealed : Bool) (units : List Unit)
         → Spells code.now marks sealed units starts.now → bank.units ≡ units) }
     ensures value { IfOk result (λ bank. bank.units ≡ units_in code.now) }

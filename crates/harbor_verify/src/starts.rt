@@ -1,4 +1,4 @@
-//! Where templates start.
+//! The starts of templates, in memory that is taken beforehand.
 
 ghost use Rattle.std.specs.Prelude.{◌≡◌, ◌<◌, [], ◌∷◌, ◌++◌, length, IfOk, slice_index};
 
@@ -6,7 +6,7 @@ use mote_base::NoMemory;
 use std::alloc::Global;
 use std::marker::Model;
 
-/// How many templates there can be: no more than words.
+/// The greatest number of templates: each has a word, and there are at most this many.
 const MOST: usize = 65535;
 
 /// The words at which templates start, in order. All memory is taken when it is made.

@@ -13,7 +13,7 @@ use crate::aims::first_astray;
 use crate::ends::{refusal_of_units, stray_mark};
 use crate::error::VerifyError;
 use crate::starts::Starts;
-use crate::walks::{first_barred, read_starts};
+use crate::walks::{first_unfit, read_starts};
 use mote_base::Words;
 
 /// The number of units that the words spell, in an image that is sealed or not and entered at the marks, or why they
@@ -64,7 +64,7 @@ fn verdict(
     ensures only { (units : List Unit) (places : List ℕ) → Spells code.now marks.now sealed units places
         → IsOkAnd result (λ count. (count ≡ length units) × (starts.new ≡ places)) }
 {
-    if let Some(at) = first_barred(code, sealed) {
+    if let Some(at) = first_unfit(code, sealed) {
         return Err(VerifyError::Word(at));
     }
     if let Some(at) = read_starts(code, sealed, starts) {

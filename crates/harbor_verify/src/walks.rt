@@ -1,19 +1,19 @@
-//! Walks from the left.
+//! The walks over the words from the left: instruction by instruction, and template by template.
 
 ghost use Rattle.std.specs.Prelude.{◌≡◌, ◌≤◌, IfNone, List, length};
 ghost use Rattle.unit_code.specs.Beside.{form_words};
-ghost use Rattle.harbor_verify.specs.Walks.{barred, starts_in, stuck};
+ghost use Rattle.harbor_verify.specs.Walks.{unfit, starts_in, gap};
 
 use crate::forms::permitted_at;
-use crate::instructions::{instruction_at, is_barred};
+use crate::instructions::{instruction_at, is_unfit};
 use crate::lengths::form_words;
 use crate::starts::Starts;
 use mote_base::Words;
 
 /// The first place, word by word, where no permitted instruction stands.
-pub fn first_barred(code: &Words<'_>, sealed: bool) -> Option<u16>
+pub fn first_unfit(code: &Words<'_>, sealed: bool) -> Option<u16>
     requires { length code.now ≤ 65535 }
-    ensures { result ≡ barred sealed code.now }
+    ensures { result ≡ unfit sealed code.now }
 {
     // where the next instruction begins
     let mut next = 0;
@@ -24,7 +24,7 @@ pub fn first_barred(code: &Words<'_>, sealed: bool) -> Option<u16>
         let Some((instruction, behind)) = instruction_at(code, place) else {
             return Some(place as u16);
         };
-        if is_barred(sealed, instruction) {
+        if is_unfit(sealed, instruction) {
             return Some(place as u16);
         }
         next = behind;
@@ -35,7 +35,7 @@ pub fn first_barred(code: &Words<'_>, sealed: bool) -> Option<u16>
 /// Where templates start. The answer is the first place, template by template, where none stands.
 pub fn read_starts(code: &Words<'_>, sealed: bool, starts: &mut Starts) -> Option<u16>
     requires { length code.now ≤ 65535 }
-    ensures stuck { result ≡ stuck sealed code.now }
+    ensures gap { result ≡ gap sealed code.now }
     ensures starts { IfNone result (starts.new ≡ starts_in code.now) }
 {
     starts.clear();

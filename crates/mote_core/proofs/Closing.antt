@@ -3,7 +3,7 @@ use Rattle.std.proofs.Common.{◌≡◌, ℕ, List, Option, None, Some, refl, ap
 use Rattle.domain_model.specs.declared.line.TraceLine.{TraceLine}
 use Rattle.domain_model.specs.Modules.{module_named}
 use Rattle.domain_model.specs.State.{Loaded, KernelState, RunnerState}
-use Rattle.domain_model.specs.Turn.{Moved, close, close_module, with_none_ending}
+use Rattle.domain_model.specs.Turn.{close, close_module, with_none_ending}
 
 -- a kernel where none ends
 pub none_ends : (k : KernelState) → k.ending ≡ None → with_none_ending k ≡ k

@@ -7,7 +7,7 @@ use Rattle.domain_model.specs.declared.line.TraceLine.TheVariants as line
 use Rattle.domain_model.specs.Given.{Given}
 use Rattle.domain_model.specs.Modules.{free_domain, in_use, is_loaded, module_at}
 use Rattle.domain_model.specs.Prepared.{Module}
-use Rattle.domain_model.specs.State.{Loaded, KernelState, RunnerState}
+use Rattle.domain_model.specs.State.{KernelState, RunnerState}
 use Rattle.domain_model.specs.Turn.{Moved, admitted, begun, init_to, load_given, load_in, load_new, load_prepared, loaded, refused, seated, state_block}
 use Rattle.domain_model.proofs.BlockLaws.{free_domain_is_free}
 use Rattle.kernel_call.specs.Admission.{Admission, Newcomer, admission, admit_given, admit_in, admit_new, newcomer}

@@ -1,9 +1,8 @@
 -- The modules that are loaded: their domains, and the units at which they are entered.
-use Rattle.std.proofs.Common.{◌≡◌, ◌∙◌, ◌<◌, ℕ, List, [], ◌∷◌, Option, None, Some, refl, sym, ap, subst, length, true, ◌↔◌}
+use Rattle.std.proofs.Common.{◌≡◌, ◌∙◌, ◌<◌, ℕ, List, [], ◌∷◌, Option, None, Some, refl, sym, subst, length, true, ◌↔◌}
 use Rattle.std.specs.Prelude.{IfSome}
 use Rattle.std.specs.Option.{option_map}
 use Rattle.mote_base.specs.Messages.{front}
-use Rattle.std.specs.List.{AllByRecursion, Contains}
 use Rattle.std.proofs.lemmas.Option.{none-some, same_Some}
 use Rattle.mote_layout.specs.Memory.{domain_count}
 use Rattle.domain_model.specs.State.{Loaded, Message, KernelState, RunnerState}

@@ -18,10 +18,11 @@ use Rattle.domain_model.specs.Loader.{are_for_loader}
 use Rattle.event_script.specs.Refusals.{refusal_of, events_of}
 use Rattle.trace_text.specs.Text.{texts}
 use Rattle.avr_asm.specs.Assembly.{IsImageOf}
+use Rattle.harbor_rewrite.specs.Rewritten.{IsRewritten, SpellsOriginal}
 use Rattle.mote_sim.specs.Listing.{listing_text}
 use Rattle.mote_sim.specs.Outcome.{Outcome, NoCommand, Unheld, Refuses, Runs, Makes, Answers}
 use Rattle.mote_sim.specs.Refusal.{Refusal, line_of}
-use Rattle.mote_sim.specs.Tools.{Output, Lists, Writes, Counts, Assembles, Says, IsMadeBy, verdict_line}
+use Rattle.mote_sim.specs.Tools.{Output, Lists, Writes, Rewrites, Counts, Assembles, Says, IsMadeBy, verdict_line}
 use Rattle.mote_sim.specs.Trace.{IsLawfulRun, run_input}
 
 -- These are the bytes of the images of these names: each image is held, and within the limit of an image.
@@ -59,6 +60,7 @@ pub record WritesRun (units handler : ℕ) (names : List (List ℕ)) (files : Li
 abbrev pub Reads : Output → List ℕ → Type 0
 Reads (Lists units places) text = text ≡ listing_text units places
 Reads (Writes c) text = (text ≡ spelling c) × (image_of text ≡ Ok c)
+Reads (Rewrites c) text = IsRewritten c text × SpellsOriginal c text
 Reads (Counts count) text = text ≡ verdict_line count
 Reads (Assembles source) text = IsImageOf source text
 Reads (Says said) text = text ≡ said

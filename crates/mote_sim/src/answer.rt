@@ -26,6 +26,7 @@ use crate::operands::Operands;
 use crate::play::play;
 use crate::reading::{ReadStop, read_files};
 use crate::request::{Request, request_of};
+use crate::rewriting::write_rewritten;
 use crate::sealing::{seal, upgrade};
 use domain_model::{Event, Kind, Lines, Tool, What};
 use event_script::{Script, ScriptError, parse_script};
@@ -146,6 +147,7 @@ fn make<K: Sink>(alloc: Global, tool: Tool, file: &[u8], out: &mut K) -> Status
         Tool::Listing => list(alloc, file, out),
         Tool::Upgrade => upgrade(alloc, file, out),
         Tool::Seal => seal(alloc, file, out),
+        Tool::Rewriting => write_rewritten(alloc, file, out),
         Tool::Verdict => judge(alloc, file, out),
         Tool::Assembly => write_module(alloc, file, out),
         Tool::Source => write_text(alloc, file, out),

@@ -5,8 +5,9 @@
 //! marks (the words at which the module is entered), exactly where no condition of [`CodeError`] holds. Where
 //! one does, it answers with the first of them in their order, at its least word. The definitions state each
 //! condition of the whole list of words, and the law that an answer meets is a clause of its own.
-//! [`spelled_len`] is the length of a unit in rewritten code. The units, their kinds and the conditions are this
-//! project's own.
+//! [`spelled_len`] is the length of a unit in rewritten code. The definitions also say which rewritten words spell which
+//! units: the template of each unit in its shapes, as instructions, and templates side by side. The units, their
+//! kinds, the conditions and the templates are this project's own.
 #![tactic(auto)]
 
 mod bank;

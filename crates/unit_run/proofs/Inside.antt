@@ -1,8 +1,8 @@
 -- Where the instructions of units store.
-use Rattle.std.proofs.Common.{◌≡◌, ℕ, rules}
+use Rattle.std.proofs.Common.{ℕ, rules}
 use Rattle.std.specs.Prelude.{unwrap_or}
 use Rattle.avr_isa.specs.declared.instruction.Instr.{Instr}
-use Rattle.avr_isa.specs.declared.instruction.Instr.TheVariants.{In, Out, LdXInc, LdXDec, LdYInc, LdYDec, LdZInc, LdZDec, StX, StdY, StdZ, Sts, StXInc, StXDec, StYInc, StYDec, StZInc, StZDec, Push, Pop, Call, Rcall}
+use Rattle.avr_isa.specs.declared.instruction.Instr.TheVariants.{In, Out, LdXInc, LdXDec, LdYInc, LdYDec, LdZInc, LdZDec, StXInc, StXDec, StYInc, StYDec, StZInc, StZDec, Push, Pop, Call, Rcall}
 use Rattle.avr_machine.specs.Conditions.{StoresInside}
 use Rattle.avr_machine.specs.DataRead.{IsInMemory}
 use Rattle.avr_machine.specs.Effect.{writes}
@@ -11,7 +11,7 @@ use Rattle.avr_machine.specs.Processor.{Processor}
 use Rattle.unit_code.specs.declared.unit.Unit.TheVariants.{Plain, Store}
 use Rattle.unit_code.specs.Kinds.{standing_of}
 use Rattle.unit_code.specs.Proper.{IsOfKind}
-use Rattle.domain_model.proofs.InstructionLaws.{out_port, off_not, in_not, out_not, call_is_call, rcall_is_reserve}
+use Rattle.domain_model.proofs.InstructionLaws.{off_not, in_not, out_not, call_is_call, rcall_is_reserve}
 
 -- a plain unit's instruction stores nothing
 pub plain_inside : (i : Instr) (p : Processor) → IsOfKind (Plain i) → StoresInside i p

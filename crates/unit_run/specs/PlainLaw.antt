@@ -1,6 +1,4 @@
 -- The plain runner meets the law of runners.
-use Rattle.std.specs.Prelude.{IsSome}
-use Rattle.std.proofs.Common.{◌∙◌}
 use Rattle.domain_model.specs.State.{KernelState, RunnerState}
 use Rattle.domain_model.specs.Free.{UnitStep}
 use Rattle.domain_model.specs.Good.{GoodMachine}

@@ -9,11 +9,11 @@ use Rattle.harbor_verify.proofs.Straight.{one_verdict, refused_spells_none}
 use Rattle.harbor_verify.proofs.verifying.verdict.Goals as goal
 
 pub returns-in-Some-clause-err : goal.returns-in-Some-clause-err
-returns-in-Some-clause-err c = by_words c.args.sealed c.args.code.now c.args.marks.now c.in-Some.at (sym c.first_barred.ensures ∙ c.in-Some.is)
+returns-in-Some-clause-err c = by_words c.args.sealed c.args.code.now c.args.marks.now c.in-Some.at (sym c.first_unfit.ensures ∙ c.in-Some.is)
 
 pub returns-in-Some-read_starts-clause-err : goal.returns-in-Some-read_starts-clause-err
 returns-in-Some-read_starts-clause-err c =
-    by_templates c.args.sealed c.args.code.now c.args.marks.now c.in-Some-read_starts.at (sym c.first_barred.ensures ∙ none_from _ c.in_default.not-Some) (sym c.read_starts.ensures.stuck ∙ c.in-Some-read_starts.is)
+    by_templates c.args.sealed c.args.code.now c.args.marks.now c.in-Some-read_starts.at (sym c.first_unfit.ensures ∙ none_from _ c.in_default.not-Some) (sym c.read_starts.ensures.gap ∙ c.in-Some-read_starts.is)
 
 pub refusal_of_parts-requires : goal.refusal_of_parts-requires
 refusal_of_parts-requires c =
@@ -21,8 +21,8 @@ refusal_of_parts-requires c =
       sealed = c.args.sealed;
       few = c.requires.few;
       small = c.requires.small;
-      read = sym c.first_barred.ensures ∙ none_from _ c.in_default.not-Some;
-      stand = sym c.read_starts.ensures.stuck ∙ none_from _ c.in_default-read_starts.not-Some;
+      read = sym c.first_unfit.ensures ∙ none_from _ c.in_default.not-Some;
+      stand = sym c.read_starts.ensures.gap ∙ none_from _ c.in_default-read_starts.not-Some;
       places = c.as_slice.ensures ∙ c.in_default-read_starts.ensures.starts;
     }
 
@@ -32,8 +32,8 @@ overflow_cast-result c =
       sealed = c.args.sealed;
       few = c.requires.few;
       small = c.requires.small;
-      read = sym c.first_barred.ensures ∙ none_from _ c.in_default.not-Some;
-      stand = sym c.read_starts.ensures.stuck ∙ none_from _ c.in_default-read_starts.not-Some;
+      read = sym c.first_unfit.ensures ∙ none_from _ c.in_default.not-Some;
+      stand = sym c.read_starts.ensures.gap ∙ none_from _ c.in_default-read_starts.not-Some;
       places = c.as_slice.ensures ∙ c.in_default-read_starts.ensures.starts;
     } in
     let few = few_starts c.args.code.now c.as_slice.result.now parts in
@@ -41,30 +41,30 @@ overflow_cast-result c =
     omega (arith, few, e)
 
 pub returns-in-Some-clause-only : goal.returns-in-Some-clause-only
-returns-in-Some-clause-only c = refused_spells_none c.args.sealed c.args.code.now c.args.marks.now _ c.requires.few c.requires.small (by_words c.args.sealed c.args.code.now c.args.marks.now c.in-Some.at (sym c.first_barred.ensures ∙ c.in-Some.is))
+returns-in-Some-clause-only c = refused_spells_none c.args.sealed c.args.code.now c.args.marks.now _ c.requires.few c.requires.small (by_words c.args.sealed c.args.code.now c.args.marks.now c.in-Some.at (sym c.first_unfit.ensures ∙ c.in-Some.is))
 
 pub returns-in-Some-read_starts-clause-only : goal.returns-in-Some-read_starts-clause-only
 returns-in-Some-read_starts-clause-only c =
     refused_spells_none c.args.sealed c.args.code.now c.args.marks.now _ c.requires.few c.requires.small
-    (by_templates c.args.sealed c.args.code.now c.args.marks.now c.in-Some-read_starts.at (sym c.first_barred.ensures ∙ none_from _ c.in_default.not-Some) (sym c.read_starts.ensures.stuck ∙ c.in-Some-read_starts.is))
+    (by_templates c.args.sealed c.args.code.now c.args.marks.now c.in-Some-read_starts.at (sym c.first_unfit.ensures ∙ none_from _ c.in_default.not-Some) (sym c.read_starts.ensures.gap ∙ c.in-Some-read_starts.is))
 
 pub returns-in-Some-refusal_of_parts-clause-err : goal.returns-in-Some-refusal_of_parts-clause-err
 returns-in-Some-refusal_of_parts-clause-err c =
-    past_templates c.args.sealed c.args.code.now c.args.marks.now (sym c.first_barred.ensures ∙ none_from _ c.in_default.not-Some)
-    (sym c.read_starts.ensures.stuck ∙ none_from _ c.in_default-read_starts.not-Some)
+    past_templates c.args.sealed c.args.code.now c.args.marks.now (sym c.first_unfit.ensures ∙ none_from _ c.in_default.not-Some)
+    (sym c.read_starts.ensures.gap ∙ none_from _ c.in_default-read_starts.not-Some)
     ∙ sym c.refusal_of_parts.ensures ∙ c.in-Some-refusal_of_parts.is
 
 pub returns-in-Some-refusal_of_parts-clause-only : goal.returns-in-Some-refusal_of_parts-clause-only
 returns-in-Some-refusal_of_parts-clause-only c =
     refused_spells_none c.args.sealed c.args.code.now c.args.marks.now _ c.requires.few c.requires.small
-    (past_templates c.args.sealed c.args.code.now c.args.marks.now (sym c.first_barred.ensures ∙ none_from _ c.in_default.not-Some)
-    (sym c.read_starts.ensures.stuck ∙ none_from _ c.in_default-read_starts.not-Some)
+    (past_templates c.args.sealed c.args.code.now c.args.marks.now (sym c.first_unfit.ensures ∙ none_from _ c.in_default.not-Some)
+    (sym c.read_starts.ensures.gap ∙ none_from _ c.in_default-read_starts.not-Some)
     ∙ sym c.refusal_of_parts.ensures ∙ c.in-Some-refusal_of_parts.is)
 
 pub returns-clause-only : goal.returns-clause-only
 returns-clause-only c = λ us places h.
     let none : refusal c.args.code.now c.args.marks.now c.args.sealed ≡ None =
-    past_templates c.args.sealed c.args.code.now c.args.marks.now (sym c.first_barred.ensures ∙ none_from _ c.in_default.not-Some) (sym c.read_starts.ensures.stuck ∙ none_from _ c.in_default-read_starts.not-Some)
+    past_templates c.args.sealed c.args.code.now c.args.marks.now (sym c.first_unfit.ensures ∙ none_from _ c.in_default.not-Some) (sym c.read_starts.ensures.gap ∙ none_from _ c.in_default-read_starts.not-Some)
     ∙ sym c.refusal_of_parts.ensures ∙ none_from _ c.in_default-refusal_of_parts.not-Some in
     let P : List ℕ → Type 0 = λ l. Spells c.args.code.now c.args.marks.now c.args.sealed (units_in c.args.code.now) l in
     let told = subst P (sym c.in_default-read_starts.ensures.starts) (no_refusal_spells c.args.sealed c.args.code.now c.args.marks.now c.requires.small none) in
@@ -74,15 +74,15 @@ returns-clause-only c = λ us places h.
 pub returns-clause-ok : goal.returns-clause-ok
 returns-clause-ok c =
     let none : refusal c.args.code.now c.args.marks.now c.args.sealed ≡ None =
-    past_templates c.args.sealed c.args.code.now c.args.marks.now (sym c.first_barred.ensures ∙ none_from _ c.in_default.not-Some) (sym c.read_starts.ensures.stuck ∙ none_from _ c.in_default-read_starts.not-Some)
+    past_templates c.args.sealed c.args.code.now c.args.marks.now (sym c.first_unfit.ensures ∙ none_from _ c.in_default.not-Some) (sym c.read_starts.ensures.gap ∙ none_from _ c.in_default-read_starts.not-Some)
     ∙ sym c.refusal_of_parts.ensures ∙ none_from _ c.in_default-refusal_of_parts.not-Some in
     let P : List ℕ → Type 0 = λ l. Spells c.args.code.now c.args.marks.now c.args.sealed (units_in c.args.code.now) l in
     (subst P (sym c.in_default-read_starts.ensures.starts) (no_refusal_spells c.args.sealed c.args.code.now c.args.marks.now c.requires.small none), ap length c.as_slice-2.ensures)
 
 pub returns-clause-none : goal.returns-clause-none
 returns-clause-none c = (
-  past_templates c.args.sealed c.args.code.now c.args.marks.now (sym c.first_barred.ensures ∙ none_from _ c.in_default.not-Some)
-      (sym c.read_starts.ensures.stuck ∙ none_from _ c.in_default-read_starts.not-Some)
+  past_templates c.args.sealed c.args.code.now c.args.marks.now (sym c.first_unfit.ensures ∙ none_from _ c.in_default.not-Some)
+      (sym c.read_starts.ensures.gap ∙ none_from _ c.in_default-read_starts.not-Some)
       ∙ sym c.refusal_of_parts.ensures ∙ none_from _ c.in_default-refusal_of_parts.not-Some,
   c.in_default-read_starts.ensures.starts,
 )

@@ -1,4 +1,4 @@
-use Rattle.std.proofs.Common.{◌∙◌, sym, ap}
+use Rattle.std.proofs.Common.{◌∙◌, ap}
 use Rattle.domain_model.specs.Turn.{entered}
 use Rattle.kernel_call.specs.declared.loaded.ModuleRow.{ModuleRow}
 use Rattle.mote_core.proofs.RowLaws.{named_module, row_is, unloads_kernel, unloads_lines}

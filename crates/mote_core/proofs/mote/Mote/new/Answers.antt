@@ -1,4 +1,3 @@
-use Rattle.std.proofs.Common.{◌∙◌}
 use Rattle.domain_model.proofs.StartLaws.{begins_good}
 use Rattle.domain_model.specs.Events.{loader_events, packets_in}
 use Rattle.mote_core.proofs.mote.Mote.new.Goals as goal

@@ -1,4 +1,4 @@
-use Rattle.std.proofs.Common.{◌∙◌, arith, rules}
+use Rattle.std.proofs.Common.{arith}
 use Rattle.avr_isa.specs.Operands.{IsEncodable}
 use Rattle.avr_machine.specs.Conditions.{IsStraight}
 use Rattle.avr_machine.specs.DataRead.{IsInMemory}

@@ -1,7 +1,7 @@
-use Rattle.std.proofs.Common.{◌≡◌, ◌∙◌, sym, ap, subst, rules, true}
+use Rattle.std.proofs.Common.{◌≡◌, ◌∙◌, sym, ap, subst}
 use Rattle.avr_machine.specs.DataRead.{IsInMemory}
 use Rattle.domain_model.specs.State.{at_counter}
-use Rattle.domain_model.specs.Act.{may_store, store_address}
+use Rattle.domain_model.specs.Act.{store_address}
 use Rattle.domain_model.proofs.ActLaws.{store_in_memory}
 use Rattle.domain_model.proofs.InstructionLaws.{store_is_straight}
 use Rattle.unit_run.proofs.Inside.{store_inside}
