@@ -236,20 +236,6 @@ const RUNS: &[Row] = &[
     },
     Row {
         words: "run s a",
-        script: "0 load 0\n5 dump\n",
-        images: &[SAYS],
-        status: Status::Refused,
-        text: "refused unbuilt\n",
-    },
-    Row {
-        words: "run s a",
-        script: "0 load 0\n5 radio 1 7 -\n",
-        images: &[SAYS],
-        status: Status::Refused,
-        text: "refused unbuilt\n",
-    },
-    Row {
-        words: "run s a",
         script: LOAD,
         images: &[SEALED],
         status: Status::Refused,
