@@ -10,7 +10,7 @@
 //! - `Modules`: the loaded modules by domain and id. `Given`: the blocks that a request is given. `Calls`: what each kernel
 //!   call does. `Others`: what it leaves to others.
 //! - `Act`: what one unit does, its instruction by the effect that `avr_machine` gives it. `Free`: the bytes whose values a
-//!   run leaves open.
+//!   run leaves open. `Runners`: what a unit does where a runner keeps the units in its own way.
 //! - `Turn`: which turn comes next, what it does, and the runs of turns.
 //! - `Good`: what every turn keeps. `Facts`: what each choice of a turn says of the state. `Remaining`: how many
 //!   turns may still come. `Laws`: what holds of each turn of each run.

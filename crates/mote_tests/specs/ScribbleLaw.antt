@@ -1,9 +1,9 @@
 -- The runner that scribbles meets the law of runners.
 use Rattle.std.specs.Prelude.{IsSome, slice_index, slice_set}
-use Rattle.std.proofs.Common.{◌≡◌, ◌≢◌, ◌∙◌, ℕ, zero, suc, ◌+◌, ◌-◌, ◌<◌, ◌≤◌, ◌&&◌, ◌||◌, nat_le, List, length, Bool, true, false, inl, inr, refl, sym, ap, subst, arith, Option, None, Some}
-use Rattle.std.proofs.lemmas.Bool.{and_from, le-leb, or_left, or_parts, or_right, cases_eq}
+use Rattle.std.proofs.Common.{◌≡◌, ◌∙◌, ℕ, zero, suc, ◌+◌, ◌-◌, ◌<◌, ◌≤◌, ◌&&◌, ◌||◌, nat_le, List, length, Bool, true, false, inl, inr, refl, sym, ap, arith, Option, None, Some}
+use Rattle.std.proofs.lemmas.Bool.{and_from, le-leb, or_left, or_right, cases_eq}
 use Rattle.std.proofs.lemmas.List.{length-set, get_or-set_other, get_or-set_same}
-use Rattle.mote_layout.specs.Memory.{floor, ram_start, ram_end, ram_bytes, red_zone_start, kernel_bytes_start, kernel_bytes_end, stack_top}
+use Rattle.mote_layout.specs.Memory.{floor, ram_start, ram_end, ram_bytes, red_zone_start, kernel_bytes_start, kernel_bytes_end}
 use Rattle.domain_model.specs.declared.fault.UnitEnd.{UnitEnd}
 use Rattle.domain_model.specs.declared.fault.UnitEnd.TheVariants.{On, Over, Fault}
 use Rattle.domain_model.specs.declared.handler.Running.{Running}

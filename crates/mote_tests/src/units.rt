@@ -104,6 +104,40 @@ const SPINS: &[u8] = b"SOSM\x01\x01\0\0\0\0\0\0\0\x01\0\xFF\xCF";
 const LASTS: &[u8] =
     b"SOSM\x01\x01\0\0\0\0\0\0\0\x06\0\x86\xE8\x93\xE1\x01\x97\xF1\xF7\0\0\x08\x95";
 
+/// Module 1 stores to the last byte of its state and to the next one by Y, which rises: E0C7 E0D2 9209 9209 9508.
+const RAISES_Y: &[u8] =
+    b"SOSM\x01\x01\0\x08\0\0\0\0\0\x05\0\xC7\xE0\xD2\xE0\x09\x92\x09\x92\x08\x95";
+
+/// Module 1 stores before its state by Y, which falls first: E0C0 E0D2 920A 9508.
+const LOWERS_Y: &[u8] = b"SOSM\x01\x01\0\x08\0\0\0\0\0\x04\0\xC0\xE0\xD2\xE0\x0A\x92\x08\x95";
+
+/// Module 1 stores to the last byte of its state and to the next one by Z, which rises: E0E7 E0F2 9201 9201 9508.
+const RAISES_Z: &[u8] =
+    b"SOSM\x01\x01\0\x08\0\0\0\0\0\x05\0\xE7\xE0\xF2\xE0\x01\x92\x01\x92\x08\x95";
+
+/// Module 1 branches over 63 words where Z is clear, as it is: F5F9, 63 times 0000, 9508.
+const BRANCHES_FAR: &[u8] =
+    b"SOSM\x01\x01\0\0\0\0\0\0\0A\0\xF9\xF5\0\0\0\0\0\0\0\0\0\0\0\0\0\0\0\0\0\0\0\0\0\0\0\0\0\0\0\0\0\0\0\0\0\0\0\0\0\0\0\0\0\0\0\0\0\0\0\0\0\0\0\0\0\0\0\0\0\0\0\0\0\0\0\0\0\0\0\0\0\0\0\0\0\0\0\0\0\0\0\0\0\0\0\0\0\0\0\0\0\0\0\0\0\0\0\0\0\0\0\0\0\0\0\0\0\0\0\0\0\0\0\0\0\0\0\0\0\0\0\0\0\0\0\0\0\0\x08\x95";
+
+/// Module 1 branches over them where Z is set, as it isn't: F1F9, 63 times 0000, 9508.
+const BRANCHES_NOT: &[u8] =
+    b"SOSM\x01\x01\0\0\0\0\0\0\0A\0\xF9\xF1\0\0\0\0\0\0\0\0\0\0\0\0\0\0\0\0\0\0\0\0\0\0\0\0\0\0\0\0\0\0\0\0\0\0\0\0\0\0\0\0\0\0\0\0\0\0\0\0\0\0\0\0\0\0\0\0\0\0\0\0\0\0\0\0\0\0\0\0\0\0\0\0\0\0\0\0\0\0\0\0\0\0\0\0\0\0\0\0\0\0\0\0\0\0\0\0\0\0\0\0\0\0\0\0\0\0\0\0\0\0\0\0\0\0\0\0\0\0\0\0\0\0\0\0\0\0\x08\x95";
+
+/// Module 1 jumps over 63 words and branches back by 64 to the first of them: C03F 9508, 62 times 0000, F601 900F 9508.
+const BRANCHES_BACK: &[u8] =
+    b"SOSM\x01\x01\0\0\0\0\0\0\0C\0?\xC0\x08\x95\0\0\0\0\0\0\0\0\0\0\0\0\0\0\0\0\0\0\0\0\0\0\0\0\0\0\0\0\0\0\0\0\0\0\0\0\0\0\0\0\0\0\0\0\0\0\0\0\0\0\0\0\0\0\0\0\0\0\0\0\0\0\0\0\0\0\0\0\0\0\0\0\0\0\0\0\0\0\0\0\0\0\0\0\0\0\0\0\0\0\0\0\0\0\0\0\0\0\0\0\0\0\0\0\0\0\0\0\0\0\0\0\0\0\0\0\0\0\0\0\0\0\0\0\x01\xF6\x0F\x90\x08\x95";
+
+/// Module 1 would run 10,001 units: E886 E193 9701 F7F1 0000 0000 9508.
+const LASTS_LONGER: &[u8] =
+    b"SOSM\x01\x01\0\0\0\0\0\0\0\x07\0\x86\xE8\x93\xE1\x01\x97\xF1\xF7\0\0\0\0\x08\x95";
+
+/// Module 2 has a state of 8 bytes and does nothing: 9508.
+const KEEPS: &[u8] = b"SOSM\x01\x02\0\x08\0\0\0\0\0\x01\0\x08\x95";
+
+/// Module 1 gives the block at 0x0200 to itself: E080 E092 E061 940E F102 9508.
+const STEALS: &[u8] =
+    b"SOSM\x01\x01\0\0\0\0\0\0\0\x06\0\x80\xE0\x92\xE0a\xE0\x0E\x94\x02\xF1\x08\x95";
+
 /// Module 2 does nothing: 9508.
 const IDLES: &[u8] = b"SOSM\x01\x02\0\0\0\0\0\0\0\x01\0\x08\x95";
 
@@ -218,6 +252,34 @@ const ROWS: &[Row] = &[
         image: LASTS,
         text: "0 load 1 0 0000\n0 run 1 0 0\n9999 done 1\n10000 end idle\n",
     },
+    Row {
+        image: RAISES_Y,
+        text: "0 load 1 0 0200\n0 run 1 0 0\n3 fault store 1 3 0208\n3 unload 1\n4 end idle\n",
+    },
+    Row {
+        image: LOWERS_Y,
+        text: "0 load 1 0 0200\n0 run 1 0 0\n2 fault store 1 2 01ff\n2 unload 1\n3 end idle\n",
+    },
+    Row {
+        image: RAISES_Z,
+        text: "0 load 1 0 0200\n0 run 1 0 0\n3 fault store 1 3 0208\n3 unload 1\n4 end idle\n",
+    },
+    Row {
+        image: BRANCHES_FAR,
+        text: "0 load 1 0 0000\n0 run 1 0 0\n1 done 1\n2 end idle\n",
+    },
+    Row {
+        image: BRANCHES_NOT,
+        text: "0 load 1 0 0000\n0 run 1 0 0\n64 done 1\n65 end idle\n",
+    },
+    Row {
+        image: BRANCHES_BACK,
+        text: "0 load 1 0 0000\n0 run 1 0 0\n2 done 1\n3 end idle\n",
+    },
+    Row {
+        image: LASTS_LONGER,
+        text: "0 load 1 0 0000\n0 run 1 0 0\n10000 fault watchdog 1 6 10ff\n10000 unload 1\n10000 end idle\n",
+    },
 ];
 
 /// The limits that hold where none is given.
@@ -266,6 +328,21 @@ fn given_block_is_no_longer_the_givers(rt: HostRuntime) -> Result<(), Fail> {
     );
     let text = "0 load 2 0 0000\n0 run 2 0 0\n0 done 2\n1 load 1 1 0200\n1 run 1 0 0\n3 say 1 0\n\
         6 fault store 1 5 0200\n6 unload 1\n7 end idle\n";
+    assert_eq!(rt; out.bytes(), text.as_bytes());
+    Ok(())
+}
+
+#[test]
+fn block_of_another_is_not_handed_over(rt: HostRuntime) -> Result<(), Fail> {
+    let alloc = rt.alloc();
+    let mut shelf = shelf_with(alloc, b"0 load 0\n0 load 1\n", &[KEEPS, STEALS], NEVER)?;
+    let mut out = MemSink::new(alloc, 1000, vec![in alloc]?)?;
+    assert_eq!(rt;
+        answer(alloc, "run s a b", &mut shelf, &mut out)?,
+        Status::Done
+    );
+    let text = "0 load 2 0 0200\n0 run 2 0 0\n0 done 2\n1 load 1 1 0000\n1 run 1 0 0\n\
+        4 fault owner 1 3 0200\n4 unload 1\n5 end idle\n";
     assert_eq!(rt; out.bytes(), text.as_bytes());
     Ok(())
 }
