@@ -6,9 +6,11 @@ use Rattle.std.proofs.lemmas.Bool.{cond_both, or_cases, and_parts, ltb-true, leb
 use Rattle.std.proofs.lemmas.List.{length-append}
 use Rattle.avr_isa.specs.declared.instruction.Instr.{Instr}
 use Rattle.avr_isa.specs.declared.instruction.Instr.TheVariants as instr
-use Rattle.mote_base.specs.Messages.{Lists, list_of, in_order, queue_limit}
+use Rattle.mote_base.specs.Messages.{Lists, list_of, in_order, appended, queue_limit}
 use Rattle.mote_layout.specs.Memory.{ram_start, ram_end, bank_words, floor}
-use Rattle.mote_layout.specs.Blocks.{owns}
+use Rattle.mote_layout.specs.Limits.{payload_limit}
+use Rattle.mote_layout.specs.Blocks.{block_of, owns}
+use Rattle.mote_layout.specs.Parcels.{Payload}
 use Rattle.mote_layout.specs.Requests.{holds}
 use Rattle.mote_layout.specs.declared.segment.Segment.{Segment}
 use Rattle.unit_code.specs.Ends.{leaves}
@@ -23,10 +25,11 @@ use Rattle.domain_model.specs.declared.fault.UnitEnd.TheVariants.{Over}
 use Rattle.domain_model.specs.declared.line.TraceLine.{TraceLine}
 use Rattle.domain_model.specs.declared.line.TraceLine.TheVariants as line
 use Rattle.domain_model.specs.State.{Processor, Message, Loaded, KernelState, RunnerState, register, pair, with_processor}
-use Rattle.domain_model.specs.Units.{IsBuilt, AreProper, Service, Malloc, Free, ChangeOwn, PostShort, Say, Clock, MyId, service_of}
-use Rattle.domain_model.specs.Modules.{is_loaded, module_named}
+use Rattle.domain_model.specs.Units.{IsBuilt, AreProper, Service, Malloc, Free, ChangeOwn, PostShort, PostLong, Take, Say, Clock, Send, MyId, service_of}
+use Rattle.domain_model.specs.Modules.{id_at, is_loaded, module_named}
+use Rattle.domain_model.specs.Payloads.{holds_bytes}
 use Rattle.domain_model.specs.Given.{Given, given}
-use Rattle.domain_model.specs.Calls.{malloc_given, free_held, change_held, changed_to, message_of, post_where, post_to, serve}
+use Rattle.domain_model.specs.Calls.{malloc_given, free_held, change_held, changed_to, message_of, post_where, post_to, long_message_of, carrying, long_where, long_to, long_held, payload_taken, take_by, take_hand, send_within, send_held, serve}
 use Rattle.domain_model.specs.Act.{Acted, goes_to, goes_on, act, act_running, act_at, act_effect, act_under, act_group, act_reserve, act_skip, act_branch, act_return, act_call, passes, taken, group_sp, has_room, store_address, may_store, bank, next_unit}
 use Rattle.domain_model.specs.Free.{calls_kernel, ends_handler}
 use Rattle.domain_model.specs.Good.{GoodMachine, GoodModule, GoodHandler, GoodRunning, GoodHand, GoodEnding}
@@ -36,9 +39,9 @@ use Rattle.domain_model.proofs.Kept.{each_contained, any_nowhere}
 use Rattle.domain_model.proofs.ModuleLaws.{found}
 use Rattle.domain_model.proofs.BlockLaws.{owned_in_heap}
 
--- The kernel with another processor, other queues and other blocks.
-abbrev pub with_parts : KernelState → Processor → Lists Message → List Segment → KernelState
-with_parts k p queues blocks = record k { processor = p; queues = queues; blocks = blocks }
+-- The kernel with another processor, other queues, other blocks and another message in hand.
+abbrev pub with_parts : KernelState → Processor → Lists Message → List Segment → Option Message → KernelState
+with_parts k p queues blocks hand = record k { processor = p; queues = queues; blocks = blocks; hand = hand }
 
 abbrev pub is_unload : TraceLine → Bool
 is_unload (line.Unload t i) = true
@@ -46,7 +49,7 @@ is_unload _ = false
 
 -- The kernel serves a call: it changes these alone, posts one message at most, and writes one line at most, which unloads nothing.
 pub record Serves (k n : KernelState) (lines : List TraceLine) : Type 0 where
-  pub alone : n ≡ with_parts k n.processor n.queues n.blocks
+  pub alone : n ≡ with_parts k n.processor n.queues n.blocks n.hand
   pub more : length (in_order n.queues) ≤ length (in_order k.queues) + 1
   pub few : length lines ≤ 1
   pub quiet : list_any is_unload lines ≡ false
@@ -88,18 +91,18 @@ return_outcome true calls k r = ends Over refl
 return_outcome false calls k r = ends _ refl
 
 -- a call that answers with other blocks, and with the same queues
-same_queues : (k : KernelState) (p : Processor) (blocks : List Segment) (lines : List TraceLine) → length lines ≤ 1 → list_any is_unload lines ≡ false → Serves k (with_parts k p k.queues blocks) lines
+same_queues : (k : KernelState) (p : Processor) (blocks : List Segment) (lines : List TraceLine) → length lines ≤ 1 → list_any is_unload lines ≡ false → Serves k (with_parts k p k.queues blocks k.hand) lines
 same_queues k p blocks lines few quiet = record { alone = refl; more = omega arith; few = few; quiet = quiet }
 
-one_more : (m : Message) (k : KernelState) → length (in_order (post_where true m k).queues) ≤ length (in_order k.queues) + 1
-one_more m k =
-    cond_both m.high (record { high = k.queues.high ++ m ∷ []; low = k.queues.low }) (record { high = k.queues.high; low = k.queues.low ++ m ∷ [] })
+pub one_more : (high : Bool) (m : Message) (k : KernelState) → length (in_order (appended high m k.queues)) ≤ length (in_order k.queues) + 1
+one_more high m k =
+    cond_both high (record { high = k.queues.high ++ m ∷ []; low = k.queues.low }) (record { high = k.queues.high; low = k.queues.low ++ m ∷ [] })
     (λ (q : Lists Message). length (in_order q) ≤ length (in_order k.queues) + 1)
-    (λ high. omega (arith, length-append (k.queues.high ++ m ∷ []) k.queues.low, length-append k.queues.high (m ∷ []), length-append k.queues.high k.queues.low))
-    (λ low. omega (arith, length-append k.queues.high (k.queues.low ++ m ∷ []), length-append k.queues.low (m ∷ []), length-append k.queues.high k.queues.low))
+    (λ first. omega (arith, length-append (k.queues.high ++ m ∷ []) k.queues.low, length-append k.queues.high (m ∷ []), length-append k.queues.high k.queues.low))
+    (λ second. omega (arith, length-append k.queues.high (k.queues.low ++ m ∷ []), length-append k.queues.low (m ∷ []), length-append k.queues.high k.queues.low))
 
 where_serves : (b : Bool) (m : Message) (k : KernelState) → Serves k (post_where b m k) []
-where_serves true m k = record { alone = refl; more = one_more m k; few = omega arith; quiet = refl }
+where_serves true m k = record { alone = refl; more = one_more m.high m k; few = omega arith; quiet = refl }
 where_serves false m k = same_queues k _ k.blocks [] (omega arith) refl
 
 to_serves : (b : Bool) (m : Message) (k : KernelState) → Serves k (post_to b m k) []
@@ -114,6 +117,38 @@ changed_serves : (o : Option Loaded) (address : ℕ) (k : KernelState) → Serve
 changed_serves None address k = same_queues k _ k.blocks [] (omega arith) refl
 changed_serves (Some owner) address k = same_queues k _ _ [] (omega arith) refl
 
+long_serves : (b : Bool) (m : Message) (address : ℕ) (k : KernelState) → Serves k (long_where b m address k) []
+long_serves true m address k = record { alone = refl; more = one_more m.high (carrying m (block_of address)) k; few = omega arith; quiet = refl }
+long_serves false m address k = same_queues k _ k.blocks [] (omega arith) refl
+
+long_to_serves : (b : Bool) (m : Message) (address : ℕ) (k : KernelState) → Serves k (long_to b m address k) []
+long_to_serves true m address k = long_serves (nat_lt (length (list_of m.high k.queues)) queue_limit) m address k
+long_to_serves false m address k = same_queues k _ k.blocks [] (omega arith) refl
+
+long_outcome : (b : Bool) (m : Message) (address : ℕ) (k : KernelState) (r : RunnerState) → Outcome true k r (act_call (long_held b m address k) r)
+long_outcome false m address k r = ends _ refl
+long_outcome true m address k r = serves _ [] refl (long_to_serves (is_loaded k.modules m.to) m address k)
+
+taken_serves : (o : Option Payload) (m : Message) (run : Running) (k : KernelState) → Serves k (payload_taken o m run k) []
+taken_serves None m run k = same_queues k _ k.blocks [] (omega arith) refl
+taken_serves (Some p) m run k = record { alone = refl; more = omega arith; few = omega arith; quiet = refl }
+
+take_by_serves : (b : Bool) (m : Message) (run : Running) (k : KernelState) → Serves k (take_by b m run k) []
+take_by_serves true m run k = taken_serves m.load m run k
+take_by_serves false m run k = same_queues k _ k.blocks [] (omega arith) refl
+
+take_serves : (o : Option Message) (run : Running) (k : KernelState) → Serves k (take_hand o run k) []
+take_serves None run k = same_queues k _ k.blocks [] (omega arith) refl
+take_serves (Some m) run k = take_by_serves (m.to == id_at k.modules run.domain) m run k
+
+within_outcome : (b : Bool) (run : Running) (k : KernelState) (r : RunnerState) → Outcome true k r (act_call (send_within b k run) r)
+within_outcome true run k r = serves _ _ refl (same_queues k _ k.blocks _ (omega arith) refl)
+within_outcome false run k r = serves _ [] refl (same_queues k _ k.blocks [] (omega arith) refl)
+
+send_outcome : (b : Bool) (run : Running) (k : KernelState) (r : RunnerState) → Outcome true k r (act_call (send_held b k run) r)
+send_outcome false run k r = ends _ refl
+send_outcome true run k r = within_outcome (nat_le (pair k.processor 20) payload_limit) run k r
+
 free_outcome : (b : Bool) (address : ℕ) (k : KernelState) (r : RunnerState) → Outcome true k r (act_call (free_held b address k) r)
 free_outcome false address k r = ends _ refl
 free_outcome true address k r = serves _ [] refl (same_queues k _ _ [] (omega arith) refl)
@@ -127,8 +162,12 @@ call_outcome (Some Malloc) run k r = serves _ [] refl (given_serves (given k run
 call_outcome (Some Free) run k r = free_outcome (holds k.blocks run.domain (pair k.processor 24)) (pair k.processor 24) k r
 call_outcome (Some ChangeOwn) run k r = change_outcome (holds k.blocks run.domain (pair k.processor 24)) (pair k.processor 24) k r
 call_outcome (Some PostShort) run k r = serves _ [] refl (to_serves (is_loaded k.modules (message_of k run).to) (message_of k run) k)
+call_outcome (Some PostLong) run k r =
+    long_outcome (holds_bytes k.blocks run.domain (pair k.processor 18) (pair k.processor 20)) (long_message_of k run) (pair k.processor 18) k r
+call_outcome (Some Take) run k r = serves _ [] refl (take_serves k.hand run k)
 call_outcome (Some Say) run k r = serves _ _ refl (same_queues k _ k.blocks _ (omega arith) refl)
 call_outcome (Some Clock) run k r = serves _ [] refl (same_queues k _ k.blocks [] (omega arith) refl)
+call_outcome (Some Send) run k r = send_outcome (holds_bytes k.blocks run.domain (pair k.processor 18) (pair k.processor 20)) run k r
 call_outcome (Some MyId) run k r = serves _ [] refl (same_queues k _ k.blocks [] (omega arith) refl)
 call_outcome None run k r = serves k [] refl (same_queues k k.processor k.blocks [] (omega arith) refl)
 
@@ -160,12 +199,12 @@ act_outcome k r = running_outcome k.running k r
 
 -- What holds of all three.
 
-alone_by : (calls : Bool) (k : KernelState) (r : RunnerState) (got : Acted) → Outcome calls k r got → got.kernel ≡ with_parts k got.kernel.processor got.kernel.queues got.kernel.blocks
+alone_by : (calls : Bool) (k : KernelState) (r : RunnerState) (got : Acted) → Outcome calls k r got → got.kernel ≡ with_parts k got.kernel.processor got.kernel.queues got.kernel.blocks got.kernel.hand
 alone_by calls k r _ (ends ending over) = refl
 alone_by calls k r _ (moves p unit) = refl
 alone_by calls k r _ (serves n lines call s) = s.alone
 
-pub act_changes_alone : (k : KernelState) (r : RunnerState) → (act k r).kernel ≡ with_parts k (act k r).kernel.processor (act k r).kernel.queues (act k r).kernel.blocks
+pub act_changes_alone : (k : KernelState) (r : RunnerState) → (act k r).kernel ≡ with_parts k (act k r).kernel.processor (act k r).kernel.queues (act k r).kernel.blocks (act k r).kernel.hand
 act_changes_alone k r = alone_by (calls_from k.running r) k r (act k r) (act_outcome k r)
 
 -- no bank changes

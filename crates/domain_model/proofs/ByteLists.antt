@@ -1,5 +1,5 @@
 -- Bytes stay bytes: each change of registers and memory that a turn makes puts bytes there.
-use Rattle.std.proofs.Common.{ℕ, zero, suc, ◌+◌, ◌<◌, ◌≤◌, ◌^◌, ◌==◌, inl, inr, Bool, List, [], ◌∷◌, ◌++◌, take, drop, sym, subst, arith}
+use Rattle.std.proofs.Common.{ℕ, zero, suc, ◌+◌, ◌<◌, ◌≤◌, ◌^◌, ◌==◌, inl, inr, Bool, List, [], ◌∷◌, ◌++◌, length, take, drop, sym, subst, arith}
 use Rattle.std.specs.Prelude.{replicate, slice_set}
 use Rattle.std.proofs.lemmas.Bool.{cases_Bool, cond_both}
 use Rattle.std.proofs.lemmas.List.{get_or-drop}
@@ -7,7 +7,7 @@ use Rattle.std.specs.List.{AllByRecursion}
 use Rattle.mote_layout.specs.Memory.{register_count, ram_start, message_frame, message_frame_bytes, stack_top}
 use Rattle.avr_machine.specs.Processor.{low, high}
 use Rattle.domain_model.specs.Bytes.{AreBytes}
-use Rattle.domain_model.specs.State.{Processor, Message, Loaded, RunnerState, payload_address, pair, with_pair, with_zeros, frame_of, dispatched}
+use Rattle.domain_model.specs.State.{Processor, Message, Loaded, RunnerState, payload_address, pair, with_pair, with_bytes, with_zeros, frame_of, dispatched}
 use Rattle.domain_model.specs.Modules.{id_at}
 use Rattle.domain_model.specs.Free.{SameBut}
 use Rattle.domain_model.specs.Turn.{kernel_message}
@@ -47,6 +47,11 @@ pub zeros_bytes : (xs : List ℕ) (i n : ℕ) → AreBytes xs → AreBytes (with
 zeros_bytes xs i n h =
     bytes_append (take i xs) (replicate n 0 ++ drop (i + n) xs) (bytes_take i xs h)
     (bytes_append (replicate n 0) (drop (i + n) xs) (bytes_zeros n) (bytes_drop (i + n) xs h))
+
+pub put_bytes : (xs : List ℕ) (i : ℕ) (bytes : List ℕ) → AreBytes bytes → AreBytes xs → AreBytes (with_bytes xs i bytes)
+put_bytes xs i bytes k h =
+    bytes_append (take i xs) (bytes ++ drop (i + length bytes) xs) (bytes_take i xs h)
+    (bytes_append bytes (drop (i + length bytes) xs) k (bytes_drop (i + length bytes) xs h))
 
 -- whatever the free bytes became
 pub bytes_kept : (free : ℕ → Bool) (want got : List ℕ) → SameBut free want got → AreBytes want → AreBytes got

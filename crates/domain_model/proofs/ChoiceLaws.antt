@@ -3,59 +3,68 @@ use Rattle.std.proofs.Common.{◌≡◌, ◌≢◌, ℕ, ◌<◌, ◌≤◌, ◌
 use Rattle.std.proofs.lemmas.Bool.{leb-true, leb-false, eqb-true, eqb-false, le-leb, lt-leb, eq-eqb, ne_eqb}
 use Rattle.std.proofs.lemmas.Option.{none-some, same_Some}
 use Rattle.domain_model.specs.declared.event.LoaderEvent.{LoaderEvent}
+use Rattle.domain_model.specs.declared.event.Packet.{Packet}
 use Rattle.domain_model.specs.declared.handler.Running.{Running}
 use Rattle.domain_model.specs.declared.event.Choice.{Choice}
-use Rattle.domain_model.specs.declared.event.Choice.TheVariants.{Stays, Comes, Dispatches, Jumps, Idles, Budgets, Watches, Acts}
+use Rattle.domain_model.specs.declared.event.Choice.TheVariants.{Stays, Hears, Comes, Dispatches, Jumps, Idles, Budgets, Watches, Acts}
 use Rattle.domain_model.specs.declared.event.Turned.{Turned}
 use Rattle.domain_model.specs.declared.event.Turned.TheVariants.{More, EndIdle, EndBudget}
 use Rattle.mote_base.specs.Messages.{front}
 use Rattle.domain_model.specs.State.{Message, State}
-use Rattle.domain_model.specs.Turn.{choice, choose_message, choose_event, choose_outside, choose_unit, choose_inside, choose_running, choose_ended}
+use Rattle.domain_model.specs.Turn.{choice, choose_time, choose_message, choose_event, choose_outside, choose_unit, choose_inside, choose_running, choose_packet, choose_ended}
+use Rattle.domain_model.specs.Events.{packet_times, event_times, is_due, next_time}
 use Rattle.domain_model.specs.Facts.{NoneDue, Facts, ChoicesAreFounded}
+use Rattle.domain_model.proofs.TimeLaws.{not_due, none_due, first_due, next_later, none_before, none_to_come}
 
 module _ (s : State) (live : s.ended ≡ More) where
-  -- nothing is due now, and the first event is later
-  later_facts : (o : Option Message) (e : LoaderEvent) → s.kernel.running ≡ None → front s.kernel.queues ≡ o → slice_get s.events 0 ≡ Some e → NoneDue s.events s.kernel.clock → s.kernel.clock < e.time → Facts (choose_message o (e ∷ [])) s
-  later_facts (Some m) e out waiting first none_due later = record { live = live; outside = out; none_due = none_due; message = m; first = waiting }
-  later_facts None e out waiting first none_due later = record {
-    live = live;
-    outside = out;
-    none_waits = waiting;
-    event = e;
-    first = first;
-    time_of = refl;
-    later = later;
-  }
+  packet_facts : is_due (packet_times s.packets) s.kernel.clock ≡ true → Facts Hears s
+  packet_facts h =
+      let p = first_due s.packets s.kernel.clock h in
+      record { live = live; packet = p.0; first = p.1; due = leb-true p.0.time s.kernel.clock p.2 }
 
-  event_facts : (b : Bool) (e : LoaderEvent) (es : List LoaderEvent) → s.kernel.running ≡ None → s.events ≡ e ∷ es → nat_le e.time s.kernel.clock ≡ b → Facts (choose_event b e (front s.kernel.queues)) s
-  event_facts true e es out all h = record { live = live; outside = out; first = rw all refl; due = leb-true e.time s.kernel.clock h }
-  event_facts false e es out all h =
-      let later = leb-false e.time s.kernel.clock h in
-      later_facts (front s.kernel.queues) e out refl (rw all refl) (rw all later) later
+  -- no packet is due
+  module _ (no_packet : NoneDue (packet_times s.packets) s.kernel.clock) where
+    -- and no event is
+    time_facts : (o : Option ℕ) → s.kernel.running ≡ None → front s.kernel.queues ≡ None → next_time s.packets s.events ≡ o → NoneDue (event_times s.events) s.kernel.clock → Facts (choose_time o) s
+    time_facts (Some time) out waiting next none = record {
+      live = live;
+      outside = out;
+      none_waits = waiting;
+      next = next;
+      later = next_later s.packets s.events s.kernel.clock time no_packet none next;
+    }
+    time_facts None out waiting next none = record { live = live; outside = out; none_waits = waiting; none = none_to_come s.packets s.events next }
 
-  -- no event is to come
-  last_facts : (o : Option Message) → s.kernel.running ≡ None → front s.kernel.queues ≡ o → s.events ≡ [] → Facts (choose_message o []) s
-  last_facts (Some m) out waiting all = record { live = live; outside = out; none_due = rw all tt; message = m; first = waiting }
-  last_facts None out waiting all = record { live = live; outside = out; none_waits = waiting; none = all }
+    message_facts : (o : Option Message) → s.kernel.running ≡ None → front s.kernel.queues ≡ o → NoneDue (event_times s.events) s.kernel.clock → Facts (choose_message o s) s
+    message_facts (Some m) out waiting none = record { live = live; outside = out; no_packet = no_packet; none_due = none; message = m; first = waiting }
+    message_facts None out waiting none = time_facts (next_time s.packets s.events) out waiting refl none
 
-  outside_facts : (es : List LoaderEvent) → s.kernel.running ≡ None → s.events ≡ es → Facts (choose_outside es s.kernel.clock (front s.kernel.queues)) s
-  outside_facts [] out all = last_facts (front s.kernel.queues) out refl all
-  outside_facts (e ∷ es) out all = event_facts (nat_le e.time s.kernel.clock) e es out all refl
+    event_facts : (b : Bool) (e : LoaderEvent) (es : List LoaderEvent) → s.kernel.running ≡ None → s.events ≡ e ∷ es → nat_le e.time s.kernel.clock ≡ b → Facts (choose_event b e s) s
+    event_facts true e es out all h = record { live = live; no_packet = no_packet; outside = out; first = rw all refl; due = leb-true e.time s.kernel.clock h }
+    event_facts false e es out all h = message_facts (front s.kernel.queues) out refl (rw all (leb-false e.time s.kernel.clock h))
 
-  unit_facts : (b : Bool) (run : Running) → s.kernel.running ≡ Some run → s.total ≢ s.unit_limit → (s.spent == s.handler_limit) ≡ b → Facts (choose_unit b run) s
-  unit_facts true run inside total h = record { live = live; running = inside; total = total; spent = eqb-true s.spent s.handler_limit h }
-  unit_facts false run inside total h = record { live = live; running = inside; total = total; spent = eqb-false s.spent s.handler_limit h }
+    outside_facts : (es : List LoaderEvent) → s.kernel.running ≡ None → s.events ≡ es → Facts (choose_outside es s) s
+    outside_facts [] out all = message_facts (front s.kernel.queues) out refl (rw all tt)
+    outside_facts (e ∷ es) out all = event_facts (nat_le e.time s.kernel.clock) e es out all refl
 
-  inside_facts : (b : Bool) (run : Running) → s.kernel.running ≡ Some run → (s.total == s.unit_limit) ≡ b → Facts (choose_inside b run s) s
-  inside_facts true run inside h = record { live = live; run = run; running = inside; total = eqb-true s.total s.unit_limit h }
-  inside_facts false run inside h = unit_facts (s.spent == s.handler_limit) run inside (eqb-false s.total s.unit_limit h) refl
+    unit_facts : (b : Bool) (run : Running) → s.kernel.running ≡ Some run → s.total ≢ s.unit_limit → (s.spent == s.handler_limit) ≡ b → Facts (choose_unit b run) s
+    unit_facts true run inside total h = record { live = live; no_packet = no_packet; running = inside; total = total; spent = eqb-true s.spent s.handler_limit h }
+    unit_facts false run inside total h = record { live = live; no_packet = no_packet; running = inside; total = total; spent = eqb-false s.spent s.handler_limit h }
 
-  running_facts : (o : Option Running) → s.kernel.running ≡ o → Facts (choose_running o s) s
-  running_facts None h = outside_facts s.events h refl
-  running_facts (Some run) h = inside_facts (s.total == s.unit_limit) run h refl
+    inside_facts : (b : Bool) (run : Running) → s.kernel.running ≡ Some run → (s.total == s.unit_limit) ≡ b → Facts (choose_inside b run s) s
+    inside_facts true run inside h = record { live = live; no_packet = no_packet; run = run; running = inside; total = eqb-true s.total s.unit_limit h }
+    inside_facts false run inside h = unit_facts (s.spent == s.handler_limit) run inside (eqb-false s.total s.unit_limit h) refl
+
+    running_facts : (o : Option Running) → s.kernel.running ≡ o → Facts (choose_running o s) s
+    running_facts None h = outside_facts s.events h refl
+    running_facts (Some run) h = inside_facts (s.total == s.unit_limit) run h refl
+
+  due_facts : (b : Bool) → is_due (packet_times s.packets) s.kernel.clock ≡ b → Facts (choose_packet b s) s
+  due_facts true h = packet_facts h
+  due_facts false h = running_facts (none_due (packet_times s.packets) s.kernel.clock h) s.kernel.running refl
 
 ended_facts : (s : State) (t : Turned) → s.ended ≡ t → Facts (choose_ended t s) s
-ended_facts s More h = running_facts s h s.kernel.running refl
+ended_facts s More h = due_facts s h (is_due (packet_times s.packets) s.kernel.clock) refl
 ended_facts s EndIdle h = λ e. absurd (cc)
 ended_facts s EndBudget h = λ e. absurd (cc)
 
@@ -70,50 +79,58 @@ stays_by s More over = absurd (over refl)
 stays_by s EndIdle over = refl
 stays_by s EndBudget over = refl
 
-comes_by : (es : List LoaderEvent) (e : LoaderEvent) (now : ℕ) (waiting : Option Message) → slice_get es 0 ≡ Some e → e.time ≤ now → choose_outside es now waiting ≡ Comes e
-comes_by [] e now waiting first due = absurd (none-some e first)
-comes_by (x ∷ xs) e now waiting first due =
-    subst (λ (y : LoaderEvent). choose_event (nat_le y.time now) y waiting ≡ Comes e) (sym (same_Some x e first))
-    (ap (λ (b : Bool). choose_event b e waiting) (le-leb e.time now due))
+hears_by : (s : State) (packets : List Packet) (p : Packet) → slice_get packets 0 ≡ Some p → p.time ≤ s.kernel.clock → is_due (packet_times packets) s.kernel.clock ≡ true
+hears_by s [] p first due = absurd (none-some p first)
+hears_by s (x ∷ xs) p first due = le-leb x.time s.kernel.clock (subst (λ (y : Packet). y.time ≤ s.kernel.clock) (sym (same_Some x p first)) due)
 
-dispatches_by : (es : List LoaderEvent) (now : ℕ) (m : Message) → NoneDue es now → choose_outside es now (Some m) ≡ Dispatches
-dispatches_by [] now m none = refl
-dispatches_by (e ∷ es) now m none = ap (λ (b : Bool). choose_event b e (Some m)) (lt-leb e.time now none)
+comes_by : (es : List LoaderEvent) (e : LoaderEvent) (s : State) → slice_get es 0 ≡ Some e → e.time ≤ s.kernel.clock → choose_outside es s ≡ Comes e
+comes_by [] e s first due = absurd (none-some e first)
+comes_by (x ∷ xs) e s first due =
+    subst (λ (y : LoaderEvent). choose_event (nat_le y.time s.kernel.clock) y s ≡ Comes e) (sym (same_Some x e first))
+    (ap (λ (b : Bool). choose_event b e s) (le-leb e.time s.kernel.clock due))
 
-jumps_by : (es : List LoaderEvent) (e : LoaderEvent) (now : ℕ) → slice_get es 0 ≡ Some e → now < e.time → choose_outside es now None ≡ Jumps e.time
-jumps_by [] e now first later = absurd (none-some e first)
-jumps_by (x ∷ xs) e now first later =
-    subst (λ (y : LoaderEvent). choose_event (nat_le y.time now) y None ≡ Jumps e.time) (sym (same_Some x e first))
-    (ap (λ (b : Bool). choose_event b e None) (lt-leb e.time now later))
+-- no event is due
+waits_by : (es : List LoaderEvent) (s : State) → NoneDue (event_times es) s.kernel.clock → choose_outside es s ≡ choose_message (front s.kernel.queues) s
+waits_by [] s none = refl
+waits_by (e ∷ es) s none = ap (λ (b : Bool). choose_event b e s) (lt-leb e.time s.kernel.clock none)
 
--- in a run that goes on, outside a handler and in one
-outside_by : (s : State) → s.ended ≡ More → s.kernel.running ≡ None → choice s ≡ choose_outside s.events s.kernel.clock (front s.kernel.queues)
-outside_by s live outside = ap (λ (t : Turned). choose_ended t s) live ∙ ap (λ (o : Option Running). choose_running o s) outside
+-- in a run that goes on, where no packet is due, outside a handler and in one
+left_to : (s : State) (o : Option Running) → s.ended ≡ More → NoneDue (packet_times s.packets) s.kernel.clock → s.kernel.running ≡ o → choice s ≡ choose_running o s
+left_to s o live none running =
+    ap (λ (t : Turned). choose_ended t s) live ∙ ap (λ (b : Bool). choose_packet b s) (not_due (packet_times s.packets) s.kernel.clock none)
+    ∙ ap (λ (x : Option Running). choose_running x s) running
 
-inside_by : (s : State) (run : Running) → s.ended ≡ More → s.kernel.running ≡ Some run → choice s ≡ choose_inside (s.total == s.unit_limit) run s
-inside_by s run live inside = ap (λ (t : Turned). choose_ended t s) live ∙ ap (λ (o : Option Running). choose_running o s) inside
+message_by : (s : State) (o : Option Message) → s.ended ≡ More → NoneDue (packet_times s.packets) s.kernel.clock → s.kernel.running ≡ None → NoneDue (event_times s.events) s.kernel.clock → front s.kernel.queues ≡ o → choice s ≡ choose_message o s
+message_by s o live no_packet outside none waiting =
+    left_to s None live no_packet outside ∙ waits_by s.events s none ∙ ap (λ (x : Option Message). choose_message x s) waiting
 
-left_by : (s : State) (run : Running) → s.ended ≡ More → s.kernel.running ≡ Some run → s.total ≢ s.unit_limit → choice s ≡ choose_unit (s.spent == s.handler_limit) run
-left_by s run live inside left = inside_by s run live inside ∙ ap (λ (b : Bool). choose_inside b run s) (ne_eqb s.total s.unit_limit left)
+left_by : (s : State) (run : Running) → s.ended ≡ More → NoneDue (packet_times s.packets) s.kernel.clock → s.kernel.running ≡ Some run → s.total ≢ s.unit_limit → choice s ≡ choose_unit (s.spent == s.handler_limit) run
+left_by s run live no_packet inside left =
+    left_to s (Some run) live no_packet inside ∙ ap (λ (b : Bool). choose_inside b run s) (ne_eqb s.total s.unit_limit left)
+
+-- nothing is to come
+idle_by : (s : State) → s.ended ≡ More → s.kernel.running ≡ None → front s.kernel.queues ≡ None → s.packets ≡ [] → s.events ≡ [] → choice s ≡ Idles
+idle_by s live outside waiting no_packets no_events =
+    message_by s None live (subst (λ (ps : List Packet). NoneDue (packet_times ps) s.kernel.clock) (sym no_packets) tt) outside
+    (subst (λ (es : List LoaderEvent). NoneDue (event_times es) s.kernel.clock) (sym no_events) tt) waiting
+    ∙ ap (λ (ps : List Packet). choose_time (next_time ps s.events)) no_packets ∙ ap (λ (es : List LoaderEvent). choose_time (next_time [] es)) no_events
 
 pub chosen_by : (c : Choice) (s : State) → Facts c s → choice s ≡ c
 chosen_by Stays s f = stays_by s s.ended f
-chosen_by (Comes e) s f = outside_by s f.live f.outside ∙ comes_by s.events e s.kernel.clock (front s.kernel.queues) f.first f.due
-chosen_by Dispatches s f =
-    outside_by s f.live f.outside ∙ ap (λ (o : Option Message). choose_outside s.events s.kernel.clock o) f.first
-    ∙ dispatches_by s.events s.kernel.clock f.message f.none_due
+chosen_by Hears s f =
+    ap (λ (t : Turned). choose_ended t s) f.live ∙ ap (λ (b : Bool). choose_packet b s) (hears_by s s.packets f.packet f.first f.due)
+chosen_by (Comes e) s f = left_to s None f.live f.no_packet f.outside ∙ comes_by s.events e s f.first f.due
+chosen_by Dispatches s f = message_by s (Some f.message) f.live f.no_packet f.outside f.none_due f.first
 chosen_by (Jumps time) s f =
-    outside_by s f.live f.outside ∙ ap (λ (o : Option Message). choose_outside s.events s.kernel.clock o) f.none_waits
-    ∙ jumps_by s.events f.event s.kernel.clock f.first (omega (arith, f.later, f.time_of)) ∙ ap (λ (t : ℕ). Jumps t) f.time_of
-chosen_by Idles s f =
-    outside_by s f.live f.outside ∙ ap (λ (o : Option Message). choose_outside s.events s.kernel.clock o) f.none_waits
-    ∙ ap (λ (es : List LoaderEvent). choose_outside es s.kernel.clock None) f.none
+    let none = none_before s.packets s.events s.kernel.clock time f.next f.later in
+    message_by s None f.live none.0 f.outside none.1 f.none_waits ∙ ap (λ (o : Option ℕ). choose_time o) f.next
+chosen_by Idles s f = idle_by s f.live f.outside f.none_waits f.none.0 f.none.1
 chosen_by Budgets s f =
-    inside_by s f.run f.live f.running ∙ ap (λ (b : Bool). choose_inside b f.run s) (eq-eqb s.total s.unit_limit f.total)
+    left_to s (Some f.run) f.live f.no_packet f.running ∙ ap (λ (b : Bool). choose_inside b f.run s) (eq-eqb s.total s.unit_limit f.total)
 chosen_by (Watches run) s f =
-    left_by s run f.live f.running f.total ∙ ap (λ (b : Bool). choose_unit b run) (eq-eqb s.spent s.handler_limit f.spent)
+    left_by s run f.live f.no_packet f.running f.total ∙ ap (λ (b : Bool). choose_unit b run) (eq-eqb s.spent s.handler_limit f.spent)
 chosen_by (Acts run) s f =
-    left_by s run f.live f.running f.total ∙ ap (λ (b : Bool). choose_unit b run) (ne_eqb s.spent s.handler_limit f.spent)
+    left_by s run f.live f.no_packet f.running f.total ∙ ap (λ (b : Bool). choose_unit b run) (ne_eqb s.spent s.handler_limit f.spent)
 
 pub choices_are_founded : ChoicesAreFounded
 choices_are_founded s c = (λ next. subst (λ (x : Choice). Facts x s) next (choice_facts s), λ facts. chosen_by c s facts)

@@ -19,7 +19,7 @@ use Rattle.domain_model.proofs.StackLaws.{Moves}
 use Rattle.domain_model.proofs.ActLaws.{running_good, act_keeps_banks, end_changes_nothing}
 use Rattle.domain_model.proofs.UnitsKept.{GoodOutcome, good_ends, good_moves, good_serves, good_outcome}
 use Rattle.domain_model.proofs.CloseLaws.{settled_rests}
-use Rattle.domain_model.proofs.TurnLaws.{step_changes_alone, step_queues, step_blocks}
+use Rattle.domain_model.proofs.TurnLaws.{step_changes_alone, step_queues, step_blocks, step_hand}
 
 -- The machine's own unit, where it enters no kernel: it goes on, and moves the processor alone.
 record OwnUnit (k : KernelState) (run : Running) (got : Acted) : Type 0 where
@@ -46,7 +46,7 @@ dead_at sp address e =
     let both = and_parts (nat_le red_zone_start address) (nat_le address sp) e in
     (leb-true red_zone_start address both.0, leb-true address sp both.1)
 
-kernel_byte_at : (address : ℕ) → is_kernel_byte address ≡ true → (kernel_bytes_start ≤ address) × (address ≤ kernel_bytes_end)
+pub kernel_byte_at : (address : ℕ) → is_kernel_byte address ≡ true → (kernel_bytes_start ≤ address) × (address ≤ kernel_bytes_end)
 kernel_byte_at address e =
     let both = and_parts (nat_le kernel_bytes_start address) (nat_le address kernel_bytes_end) e in
     (leb-true kernel_bytes_start address both.0, leb-true address kernel_bytes_end both.1)
@@ -81,7 +81,7 @@ step_keeps k r got run h i step out =
       blocks = step_blocks k r got step ∙ ap (λ (n : KernelState). n.blocks) own.alone;
       modules = ap (λ (n : KernelState). n.modules) rest;
       queues = step_queues k r got step ∙ ap (λ (n : KernelState). n.queues) own.alone;
-      hand = ap (λ (n : KernelState). n.hand) rest;
+      hand = step_hand k r got step ∙ ap (λ (n : KernelState). n.hand) own.alone;
       ending = ap (λ (n : KernelState). n.ending) rest;
       running = ap (λ (n : KernelState). n.running) rest;
       memory = λ n differs.

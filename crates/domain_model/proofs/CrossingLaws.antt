@@ -5,7 +5,7 @@ use Rattle.mote_base.specs.Messages.{front}
 use Rattle.domain_model.specs.declared.event.LoaderOrder.{LoaderOrder}
 use Rattle.domain_model.specs.declared.event.LoaderOrder.TheVariants as what
 use Rattle.domain_model.specs.declared.event.Choice.{Choice}
-use Rattle.domain_model.specs.declared.event.Choice.TheVariants.{Stays, Comes, Dispatches, Jumps, Idles, Budgets, Watches, Acts}
+use Rattle.domain_model.specs.declared.event.Choice.TheVariants.{Stays, Hears, Comes, Dispatches, Jumps, Idles, Budgets, Watches, Acts}
 use Rattle.domain_model.specs.declared.fault.UnitEnd.{UnitEnd}
 use Rattle.domain_model.specs.declared.fault.UnitEnd.TheVariants.{On, Over, Fault}
 use Rattle.domain_model.specs.declared.handler.Running.{Running}
@@ -21,6 +21,7 @@ use Rattle.domain_model.specs.Facts.{Facts}
 use Rattle.domain_model.proofs.ChoiceLaws.{choice_facts}
 use Rattle.domain_model.proofs.ModuleLaws.{named}
 use Rattle.domain_model.proofs.CloseLaws.{Rests, close_rests, faulted_rests}
+use Rattle.domain_model.proofs.HearLaws.{first_hears}
 use Rattle.domain_model.proofs.TurnLaws.{with_bytes, leaves, step_changes_alone}
 
 -- the same domain runs on, or none
@@ -86,6 +87,7 @@ unload_starts (Some row) s id k r out e =
 came_starts : (s : State) (images : List (Option Prep)) (w : LoaderOrder) (k : KernelState) (r : RunnerState) → k.running ≡ None → Starts s (came images w k r)
 came_starts s images (what.Load n) k r out = image_starts (slice_get images n) s n k r out
 came_starts s images (what.Unload id) k r out = unload_starts (module_named k.modules id) s id k r out refl
+came_starts s images what.Dump k r out = not_started s (came images what.Dump k r) out
 
 deliver_starts : (o : Option Loaded) (s : State) (m : Message) (k : KernelState) (r : RunnerState) → k.running ≡ None → module_named k.modules m.to ≡ o → Starts s (deliver o m k r)
 deliver_starts None s m k r out e = not_started s (deliver None m k r) out
@@ -120,6 +122,9 @@ settled_crosses (Fault note) s o run k r lines h =
 
 made_crosses : (c : Choice) (s : State) (got : Acted) → Facts c s → May c s got → Crosses s (made c s got).state
 made_crosses Stays s got facts may = stays s.kernel.running s
+made_crosses Hears s got facts may =
+    subst (λ (o : Option Running). CrossesBy s.kernel.running o (made Hears s got).state)
+    (sym (ap (λ (k : KernelState). k.running) (first_hears (slice_get s.packets 0) s.kernel s.runner).alone)) (stays s.kernel.running (made Hears s got).state)
 made_crosses (Comes e) s got facts may =
     subst (λ (o : Option Running). CrossesBy o (came s.images e.what s.kernel s.runner).kernel.running (made (Comes e) s got).state) (sym facts.outside)
     (came_starts (record s { events = (made (Comes e) s got).state.events; spent = 0 }) s.images e.what s.kernel s.runner facts.outside)

@@ -5,6 +5,7 @@ use Rattle.domain_model.proofs.TurnLaws.{turn_good}
 use Rattle.domain_model.proofs.ConfinedLaws.{turn_confined}
 use Rattle.domain_model.proofs.CrossingLaws.{turn_crosses}
 use Rattle.domain_model.proofs.UnloadLaws.{turn_unloads}
+use Rattle.domain_model.proofs.InterruptLaws.{turn_interrupts}
 use Rattle.domain_model.proofs.OthersLaws.{turn_unloads_alone}
 
 pub turns_are_lawful : TurnsAreLawful
@@ -15,6 +16,7 @@ turns_are_lawful s t lines g turn = record {
   crosses = turn_crosses s t lines turn;
   unloads = turn_unloads s t lines g turn;
   unloads_alone = turn_unloads_alone s t lines g turn;
+  interrupts = turn_interrupts s t lines g turn;
 }
 
 pub runs_are_lawful : RunsAreLawful

@@ -3,6 +3,7 @@ pub mod ByteLists
 pub mod TimeLaws
 pub mod ChoiceLaws
 pub mod ModuleLaws
+pub mod PayloadLaws
 pub mod BlockLaws
 pub mod UnitLaws
 pub mod InstructionLaws
@@ -11,6 +12,9 @@ pub mod StackLaws
 pub mod ActLaws
 pub mod MachineLaws
 pub mod UnitsKept
+pub mod SegmentLaws
+pub mod HearLaws
+pub mod DumpLaws
 pub mod CloseLaws
 pub mod OwningLaws
 pub mod TurnLaws
@@ -21,6 +25,8 @@ pub mod ConfinedLaws
 pub mod CrossingLaws
 pub mod UnloadLaws
 pub mod OthersLaws
+pub mod InterruptLaws
+pub mod HolderLaws
 pub mod LawfulLaws
 pub mod FileLaws
 pub mod RanLaws

@@ -18,15 +18,19 @@ use Rattle.domain_model.specs.Turn.{state_block, seated, init_to, final_to, Move
 use Rattle.domain_model.specs.Good.{GoodProcessor, GoodModule, AreEntered, GoodMachine, GoodHandler, GoodRunning, GoodEnding, GoodQueues, IsFramed, IsKnown, AreDistinct, GoodImage, IsGoodImage}
 use Rattle.domain_model.proofs.Kept.{each_weaker, each_filter, each_push, each_at, each_drop, each_contained, each_either, filter_shorter}
 use Rattle.domain_model.proofs.ModuleLaws.{found, found_id, named, loaded_named, contained_loaded, contained_in_use, id_at_row, is_loaded_old, is_loaded_without, in_use_old, in_use_new, is_loaded_new, other_domain, all_apart, distinct_push, distinct_filter}
-use Rattle.domain_model.proofs.BlockLaws.{GoodGiven, state_block_good, free_domain_is_free, owned_more, owned_without}
+use Rattle.domain_model.proofs.BlockLaws.{GoodGiven, state_block_good, free_domain_is_free, owned_more, owned_without, owned_unloaded, owned_unnamed}
+use Rattle.domain_model.proofs.PayloadLaws.{payloads_stay, payloads_next, payloads_handed, payloads_ended, payloads_unnamed, without_load-blocks, without_owner_stays}
 use Rattle.std.proofs.lemmas.Bool.{eqb-false, or_parts, cond_both, ltb-true, not-true}
 use Rattle.std.proofs.Common.{◌≡◌, ◌≢◌, ◌⊎◌, inl, inr, ℕ, ◌^◌, ◌<◌, ◌≤◌, ◌==◌, nat_lt, not, List, [], ◌∷◌, ◌++◌, length, drop, Bool, true, false, refl, sym, ap, ◌∙◌, subst, arith, Option, Some, None, Ok, Err, slice_get}
 use Rattle.mote_layout.specs.Memory.{domain_count, ram_bytes, floor, message_frame_bytes, stack_top}
+use Rattle.mote_layout.specs.Blocks.{without_owner}
+use Rattle.mote_layout.specs.declared.segment.Segment.{Segment}
 use Rattle.mote_layout.proofs.BlockLists.{AreBlocks-without_owner}
 use Rattle.domain_model.specs.Units.{AreProper}
 use Rattle.domain_model.specs.State.{Loaded, Processor, Message, radio, KernelState, RunnerState, frame_of, dispatched}
 use Rattle.domain_model.specs.Act.{bank}
 use Rattle.domain_model.specs.Given.{Given}
+use Rattle.domain_model.specs.Payloads.{load_of, without_payloads, HoldsPayloads}
 use Rattle.domain_model.specs.Free.{SameKernel, with_memory}
 use Rattle.domain_model.proofs.ByteLists.{bytes_kept, kernel_framed, dispatched_bytes}
 use Rattle.domain_model.proofs.ActLaws.{running_good}
@@ -59,8 +63,8 @@ modules_kept r s e ms h = each_weaker (GoodModule r) (GoodModule s) (λ m. modul
 
 -- A change of the processor, the clock or the next unit.
 
-kept_good : (k n : KernelState) (r s : RunnerState) → n.modules ≡ k.modules → n.blocks ≡ k.blocks → n.queues ≡ k.queues → s.banks ≡ r.banks → GoodProcessor n.processor → GoodHandler n s n.running → GoodMachine k r → GoodMachine n s
-kept_good k n r s modules blocks queues banks processor handler h = record {
+kept_good : (k n : KernelState) (r s : RunnerState) → n.modules ≡ k.modules → n.blocks ≡ k.blocks → n.queues ≡ k.queues → n.hand ≡ k.hand → s.banks ≡ r.banks → GoodProcessor n.processor → GoodHandler n s n.running → GoodMachine k r → GoodMachine n s
+kept_good k n r s modules blocks queues hand banks processor handler h = record {
   processor = processor;
   banks = ap (λ (bs : List (List Unit)). length bs) banks ∙ h.banks;
   modules = rw modules (modules_kept r s banks k.modules h.modules);
@@ -68,6 +72,7 @@ kept_good k n r s modules blocks queues banks processor handler h = record {
   blocks = rw blocks h.blocks;
   owners = rw (modules, blocks) h.owners;
   queues = rw (modules, queues) h.queues;
+  payloads = rw (blocks, queues, hand) h.payloads;
   handler = handler;
 }
 
@@ -98,7 +103,7 @@ ending_kept k n run None modules h = tt
 ending_kept k n run (Some id) modules h = h ∙ ap (λ (ms : List Loaded). id_at ms run.domain) (sym modules)
 
 -- the same unit is next: the stack pointer, the modules and the message in hand are the same
-handler_kept : (o : Option Running) (k n : KernelState) (r : RunnerState) → n.processor.sp ≡ k.processor.sp → n.modules ≡ k.modules → n.hand ≡ k.hand → n.ending ≡ k.ending → GoodHandler k r o → GoodHandler n r o
+pub handler_kept : (o : Option Running) (k n : KernelState) (r : RunnerState) → n.processor.sp ≡ k.processor.sp → n.modules ≡ k.modules → n.hand ≡ k.hand → n.ending ≡ k.ending → GoodHandler k r o → GoodHandler n r o
 handler_kept None k n r sp modules hand ending h = (hand ∙ h.0, ending ∙ h.1)
 handler_kept (Some run) k n r sp modules hand ending h = (
   running_kept k n r r run sp modules h.0.unit h.0,
@@ -108,11 +113,11 @@ handler_kept (Some run) k n r sp modules hand ending h = (
 
 pub clock_good : (k : KernelState) (r : RunnerState) (now : ℕ) → GoodMachine k r → GoodMachine (at_clock k now) r
 clock_good k r now h =
-    kept_good k (at_clock k now) r r refl refl refl refl h.processor (handler_kept k.running k (at_clock k now) r refl refl refl refl h.handler) h
+    kept_good k (at_clock k now) r r refl refl refl refl refl h.processor (handler_kept k.running k (at_clock k now) r refl refl refl refl h.handler) h
 
 pub memory_good : (k : KernelState) (r : RunnerState) (memory : List ℕ) → length memory ≡ length k.processor.memory → AreBytes memory → GoodMachine k r → GoodMachine (with_memory k memory) r
 memory_good k r memory same bytes h =
-    kept_good k (with_memory k memory) r r refl refl refl refl (record { registers = h.processor.registers; memory = same ∙ h.processor.memory; register_bytes = h.processor.register_bytes; memory_bytes = bytes; sreg_byte = h.processor.sreg_byte })
+    kept_good k (with_memory k memory) r r refl refl refl refl refl (record { registers = h.processor.registers; memory = same ∙ h.processor.memory; register_bytes = h.processor.register_bytes; memory_bytes = bytes; sreg_byte = h.processor.sreg_byte })
     (handler_kept k.running k (with_memory k memory) r refl refl refl refl h.handler) h
 
 -- whatever the free bytes became
@@ -123,7 +128,17 @@ same_kernel_good free want got r same h =
 
 -- no handler runs and no module ends
 pub ended_good : (k : KernelState) (r : RunnerState) → GoodMachine k r → GoodMachine (with_none_ending (handler_ended k)) r
-ended_good k r h = kept_good k (with_none_ending (handler_ended k)) r r refl refl refl refl h.processor (refl, refl) h
+ended_good k r h = record {
+  processor = h.processor;
+  banks = h.banks;
+  modules = h.modules;
+  distinct = h.distinct;
+  blocks = without_load-blocks (load_of k.hand) k.blocks h.blocks;
+  owners = owned_unloaded k.modules (load_of k.hand) k.blocks h.owners;
+  queues = h.queues;
+  payloads = payloads_ended k.blocks k.queues k.hand h.blocks h.payloads;
+  handler = (refl, refl);
+}
 
 -- Messages that wait.
 
@@ -235,17 +250,30 @@ lists_within k r h = h.queues.within
 
 -- A module goes out.
 
+-- the blocks without the payload in hand and those of the messages that name an id
+abbrev pub unnamed_blocks : KernelState → ℕ → List Segment
+unnamed_blocks k id = without_payloads id (in_order k.queues) (handler_ended k).blocks
+
 pub purged_good : (k : KernelState) (r : RunnerState) (row : Loaded) → GoodMachine k r → Contains k.modules row → GoodMachine (with_none_ending (purged (handler_ended k) row.face.id row.domain)) (emptied r row.domain)
-purged_good k r row h c = record {
+purged_good k r row h c =
+    let ended = ended_good k r h in
+    let rest = payloads_unnamed row.face.id (handler_ended k).blocks k.queues None ended.blocks ended.payloads in
+    let domain = (each_contained (GoodModule r) k.modules row h.modules c).domain in
+    record {
   processor = h.processor;
   banks = length-set r.banks row.domain [] ∙ h.banks;
   modules =
       each_filter (GoodModule r) (GoodModule (emptied r row.domain)) (λ (m : Loaded). not (m.domain == row.domain))
       (λ m kept g. module_kept r (emptied r row.domain) m (bank_other r row.domain m.domain [] (other_domain m.domain row.domain kept)) g) k.modules h.modules;
   distinct = distinct_filter (λ (m : Loaded). not (m.domain == row.domain)) k.modules h.distinct;
-  blocks = AreBlocks-without_owner row.domain k.blocks h.blocks;
-  owners = owned_without k.modules row.domain k.blocks h.owners;
+  blocks = AreBlocks-without_owner row.domain (unnamed_blocks k row.face.id) rest.blocks;
+  owners =
+      owned_without k.modules row.domain (unnamed_blocks k row.face.id)
+      (owned_unnamed k.modules row.face.id (in_order k.queues) (handler_ended k).blocks ended.owners);
   queues = queues_without k.modules row k.queues h.distinct c h.queues;
+  payloads =
+      payloads_stay (unnamed_blocks k row.face.id) (without_owner row.domain (unnamed_blocks k row.face.id)) (unnamed row.face.id k.queues) None
+      (without_owner_stays row.domain (unnamed_blocks k row.face.id) (λ e. omega (arith, domain, e))) rest.payloads;
   handler = (refl, refl);
 }
 
@@ -303,8 +331,8 @@ dispatched_good p state m memory bytes small framed = record {
   sreg_byte = omega arith;
 }
 
-pub loaded_good : (k : KernelState) (r : RunnerState) (m : Module) (domain : ℕ) (g : Given) → k.ending ≡ None → GoodMachine k r → GoodImage m → domain < domain_count → in_use k.modules domain ≡ false → is_loaded k.modules m.face.id ≡ false → GoodGiven k domain g → GoodMachine (loaded m domain g k r).kernel (loaded m domain g k r).runner
-loaded_good k r m domain g quiet h image below unused unloaded block =
+pub loaded_good : (k : KernelState) (r : RunnerState) (m : Module) (domain : ℕ) (g : Given) → k.ending ≡ None → k.hand ≡ None → GoodMachine k r → GoodImage m → domain < domain_count → in_use k.modules domain ≡ false → is_loaded k.modules m.face.id ≡ false → GoodGiven k domain g → GoodMachine (loaded m domain g k r).kernel (loaded m domain g k r).runner
+loaded_good k r m domain g quiet free h image below unused unloaded block =
     let same = bank_same r domain m.units (omega (arith, h.banks, below)) in
     record {
       processor = dispatched_good (record k.processor { memory = g.memory }) g.address (init_to m.face.id) (block.memory ∙ h.processor.memory)
@@ -318,9 +346,12 @@ loaded_good k r m domain g quiet h image below unused unloaded block =
       owners =
           block.owners (k.modules ++ seated m domain g ∷ [])
           (owned_more k.modules (k.modules ++ seated m domain g ∷ []) (in_use_old k.modules (seated m domain g)) k.blocks h.owners)
-          (in_use_new k.modules (seated m domain g));
+          (inr (in_use_new k.modules (seated m domain g)));
       queues =
           queues_more k.modules (k.modules ++ seated m domain g ∷ []) k.queues (is_loaded_old k.modules (seated m domain g)) h.queues;
+      payloads =
+          payloads_handed g.blocks k.queues k.hand (Some (init_to m.face.id)) (ap load_of free) refl
+          (payloads_stay k.blocks g.blocks k.queues k.hand (block.stays (omega (arith, below))) h.payloads);
       handler = (
         record {
           loaded = in_use_new k.modules (seated m domain g);
@@ -334,7 +365,7 @@ loaded_good k r m domain g quiet h image below unused unloaded block =
           receiver = is_loaded_new k.modules (seated m domain g);
           sender = inl (inl refl);
           framed = kernel_framed m.face.id 0 image.face.id.1 (omega arith);
-          load = refl;
+          load = tt;
         },
         rw quiet tt,
       );
@@ -342,8 +373,8 @@ loaded_good k r m domain g quiet h image below unused unloaded block =
 
 -- A loaded module's handler starts.
 
-started : (k : KernelState) (r : RunnerState) (row : Loaded) (m : Message) (queues : Lists Message) (o : Option ℕ) → GoodMachine k r → Contains k.modules row → GoodQueues k.modules queues → IsKnown k.modules m → GoodEnding k (record { domain = row.domain; base = stack_top; bound = stack_top }) o → GoodMachine (record (begun (record k { queues = queues }) row.domain row.state m) { ending = o }) (entered r row.handler)
-started k r row m queues o h c waiting known ending = record {
+started : (k : KernelState) (r : RunnerState) (row : Loaded) (m : Message) (queues : Lists Message) (o : Option ℕ) → GoodMachine k r → Contains k.modules row → GoodQueues k.modules queues → HoldsPayloads k.blocks queues (Some m) → IsKnown k.modules m → GoodEnding k (record { domain = row.domain; base = stack_top; bound = stack_top }) o → GoodMachine (record (begun (record k { queues = queues }) row.domain row.state m) { ending = o }) (entered r row.handler)
+started k r row m queues o h c waiting held known ending = record {
   processor =
       dispatched_good k.processor row.state m h.processor.memory h.processor.memory_bytes
       (each_contained (GoodModule r) k.modules row h.modules c).state known.framed;
@@ -353,6 +384,7 @@ started k r row m queues o h c waiting known ending = record {
   blocks = h.blocks;
   owners = h.owners;
   queues = waiting;
+  payloads = held;
   handler = (
     record {
       loaded = contained_in_use k.modules row c;
@@ -369,11 +401,12 @@ started k r row m queues o h c waiting known ending = record {
 
 -- A load, by the first reason for which it is refused.
 
-module _ (k : KernelState) (r : RunnerState) (quiet : k.ending ≡ None) (h : GoodMachine k r) where
+module _ (k : KernelState) (r : RunnerState) (quiet : k.ending ≡ None) (free : k.hand ≡ None) (h : GoodMachine k r) where
   given_moved : (o : Option Given) (m : Module) (domain image : ℕ) → GoodImage m → domain < domain_count → in_use k.modules domain ≡ false → is_loaded k.modules m.face.id ≡ false → state_block k domain m.state_size ≡ o → GoodMoved (load_given o m domain image k r)
   given_moved None m domain image good below unused unloaded e = h
   given_moved (Some g) m domain image good below unused unloaded e =
-      loaded_good k r m domain g quiet h good below unused unloaded (state_block_good k domain m.state_size g h.blocks h.processor.memory below e)
+      loaded_good k r m domain g quiet free h good below unused unloaded
+      (state_block_good k domain m.state_size g h.blocks h.processor.memory (omega (arith, below)) e)
 
   in_moved : (o : Option ℕ) (m : Module) (image : ℕ) → GoodImage m → is_loaded k.modules m.face.id ≡ false → free_domain k.modules ≡ o → GoodMoved (load_in o m image k r)
   in_moved None m image good unloaded e = h
@@ -401,11 +434,12 @@ module _ (k : KernelState) (r : RunnerState) (quiet : k.ending ≡ None) (h : Go
   unload_moved (Some row) id e =
       let n = named k.modules id row e in
       started k r row (final_to id) k.queues (Some id) h n.contained h.queues
+      (payloads_handed k.blocks k.queues k.hand (Some (final_to id)) (ap load_of free) refl h.payloads)
       (record {
         receiver = subst (λ (i : ℕ). is_loaded k.modules i ≡ true) n.id_of (contained_loaded k.modules row n.contained);
         sender = inl (inl refl);
         framed = kernel_framed id 1 (omega (arith, n.id_of, (each_contained (GoodModule r) k.modules row h.modules n.contained).face.id.1)) (omega arith);
-        load = refl;
+        load = tt;
       })
       (sym n.id_of ∙ sym (id_at_row k.modules row h.distinct n.contained))
 
@@ -415,7 +449,9 @@ module _ (k : KernelState) (r : RunnerState) (quiet : k.ending ≡ None) (h : Go
   deliver_moved (Some row) m first e =
       let n = named k.modules m.to row e in
       subst (λ (o : Option ℕ). GoodMachine (record (begun (record k { queues = without_front k.queues }) row.domain row.state m) { ending = o }) (entered r row.handler)) (sym quiet)
-      (started k r row m (without_front k.queues) None h n.contained (queues_taken k.modules k.queues h.queues) (front_known k.modules k.queues m h.queues first) tt)
+      (started k r row m (without_front k.queues) None h n.contained (queues_taken k.modules k.queues h.queues)
+      (subst (λ (o : Option Message). HoldsPayloads k.blocks (without_front k.queues) o) first (payloads_next k.blocks k.queues k.hand free h.payloads))
+      (front_known k.modules k.queues m h.queues first) tt)
 
   dispatch_moved : (o : Option Message) → front k.queues ≡ o → GoodMoved (dispatch o k r)
   dispatch_moved None first = h
@@ -424,16 +460,17 @@ module _ (k : KernelState) (r : RunnerState) (quiet : k.ending ≡ None) (h : Go
   came_moved : (images : List (Option Prep)) (w : LoaderOrder) → AllByRecursion IsGoodImage images → GoodMoved (came images w k r)
   came_moved images (what.Load n) good = image_moved (slice_get images n) images n good refl
   came_moved images (what.Unload id) good = unload_moved (module_named k.modules id) id refl
+  came_moved images what.Dump good = h
 
--- outside a handler no module ends
-pub none_ends : (k : KernelState) (r : RunnerState) → GoodMachine k r → k.running ≡ None → k.ending ≡ None
-none_ends k r h out = (subst (GoodHandler k r) out h.handler).1
+-- outside a handler no message is in hand, and no module ends
+pub nothing_runs : (k : KernelState) (r : RunnerState) → GoodMachine k r → k.running ≡ None → (k.hand ≡ None) × (k.ending ≡ None)
+nothing_runs k r h out = subst (GoodHandler k r) out h.handler
 
 pub came_good : (images : List (Option Prep)) (w : LoaderOrder) (k : KernelState) (r : RunnerState) → GoodMachine k r → k.running ≡ None → AllByRecursion IsGoodImage images → GoodMachine (came images w k r).kernel (came images w k r).runner
-came_good images w k r h out good = came_moved k r (none_ends k r h out) h images w good
+came_good images w k r h out good = came_moved k r (nothing_runs k r h out).1 (nothing_runs k r h out).0 h images w good
 
 pub dispatch_good : (k : KernelState) (r : RunnerState) → GoodMachine k r → k.running ≡ None → GoodMachine (dispatch (front k.queues) k r).kernel (dispatch (front k.queues) k r).runner
-dispatch_good k r h out = dispatch_moved k r (none_ends k r h out) h (front k.queues) refl
+dispatch_good k r h out = dispatch_moved k r (nothing_runs k r h out).1 (nothing_runs k r h out).0 h (front k.queues) refl
 
 pub faulted_good : (note : FaultNote) (run : Running) (k : KernelState) (r : RunnerState) (lines : List TraceLine) → GoodMachine k r → k.running ≡ Some run → GoodMachine (faulted note run k r lines).kernel (faulted note run k r lines).runner
 faulted_good note run k r lines h i =

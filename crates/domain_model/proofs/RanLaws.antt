@@ -1,17 +1,18 @@
 -- The machine itself writes no line of an instruction that a runner runs, and nothing but lines hangs on such lines.
-use Rattle.std.proofs.Common.{Ok, Err, ◌≡◌, ℕ, ◌==◌, nat_lt, nat_le, List, [], ◌∷◌, ◌++◌, Bool, true, false, not, refl, sym, ap, subst, ◌∙◌, Option, Some, None, slice_get}
+use Rattle.std.proofs.Common.{Ok, Err, ◌≡◌, ℕ, ◌==◌, nat_lt, nat_le, List, [], ◌∷◌, ◌++◌, length, Bool, true, false, not, refl, sym, ap, subst, ◌∙◌, Option, Some, None, slice_get}
 use Rattle.std.proofs.lemmas.List.Elements.{filter-append}
-use Rattle.mote_base.specs.Messages.{front}
+use Rattle.mote_base.specs.Messages.{front, queue_limit}
 use Rattle.avr_isa.specs.declared.instruction.Instr.{Instr}
 use Rattle.avr_isa.specs.declared.instruction.Instr.TheVariants as instr
-use Rattle.mote_layout.specs.Memory.{floor}
+use Rattle.mote_layout.specs.Memory.{floor, kernel}
+use Rattle.mote_layout.specs.Limits.{payload_limit}
 use Rattle.mote_layout.specs.Requests.{holds}
 use Rattle.unit_code.specs.declared.unit.Unit.{Unit}
 use Rattle.unit_code.specs.declared.unit.Unit.TheVariants.{Plain, Store, Push, Pop, SpGroup, Reserve, Skip, Branch, Jump, KernelCall, Return}
 use Rattle.domain_model.specs.declared.event.LoaderOrder.{LoaderOrder}
 use Rattle.domain_model.specs.declared.event.LoaderOrder.TheVariants as what
 use Rattle.domain_model.specs.declared.event.Choice.{Choice}
-use Rattle.domain_model.specs.declared.event.Choice.TheVariants.{Stays, Comes, Dispatches, Jumps, Idles, Budgets, Watches, Acts}
+use Rattle.domain_model.specs.declared.event.Choice.TheVariants.{Stays, Hears, Comes, Dispatches, Jumps, Idles, Budgets, Watches, Acts}
 use Rattle.domain_model.specs.declared.fault.FaultNote.{FaultNote}
 use Rattle.domain_model.specs.declared.fault.Rule.{Rule}
 use Rattle.domain_model.specs.declared.fault.Rule.TheVariants as rule
@@ -24,13 +25,18 @@ use Rattle.domain_model.specs.declared.line.TraceLine.{TraceLine}
 use Rattle.domain_model.specs.declared.line.TraceLine.TheVariants as line
 use Rattle.domain_model.specs.Prepared.{Module, Prep}
 use Rattle.domain_model.specs.State.{Message, Loaded, KernelState, RunnerState, State, pair}
-use Rattle.domain_model.specs.Units.{Service, Malloc, Free, ChangeOwn, PostShort, Say, Clock, MyId, service_of}
+use Rattle.domain_model.specs.Units.{Service, Malloc, Free, ChangeOwn, PostShort, PostLong, Take, Say, Clock, Send, MyId, service_of}
 use Rattle.domain_model.specs.Modules.{free_domain, id_at, is_loaded, module_named}
-use Rattle.domain_model.specs.Given.{Given}
-use Rattle.domain_model.specs.Calls.{Serving, change_held, free_held, serve}
+use Rattle.domain_model.specs.Given.{Given, given}
+use Rattle.domain_model.specs.Payloads.{holds_bytes}
+use Rattle.domain_model.specs.Dump.{dumped}
+use Rattle.domain_model.specs.Radio.{heard_given, heard_bytes, heard_where, heard_by}
+use Rattle.domain_model.specs.declared.event.Packet.{Packet}
+use Rattle.domain_model.specs.Calls.{Serving, change_held, free_held, long_message_of, long_held, send_within, send_held, serve}
 use Rattle.domain_model.specs.Act.{Acted, act, act_running, act_at, act_effect, act_under, act_group, act_reserve, act_skip, act_branch, act_return, act_served, act_call, passes, taken, group_sp, has_room, may_store, store_address, next_unit}
-use Rattle.domain_model.specs.Turn.{Moved, came, load_image, load_prepared, load_new, load_in, load_given, unload_module, deliver, dispatch, close, close_module, faulted, settled, purged, handler_ended, emptied, made, state_block, watchdog}
+use Rattle.domain_model.specs.Turn.{Moved, came, load_image, load_prepared, load_new, load_in, load_given, unload_module, deliver, dispatch, hear, close, close_module, faulted, settled, purged, handler_ended, emptied, made, state_block, watchdog}
 use Rattle.domain_model.specs.Runners.{is_ran, without_ran, without_ran_lines}
+use Rattle.domain_model.proofs.DumpLaws.{each_dumped, filter_all}
 
 abbrev IsQuiet : List TraceLine → Type 0
 IsQuiet lines = without_ran lines ≡ lines
@@ -73,13 +79,29 @@ quiet_change : (b : Bool) (address : ℕ) (k : KernelState) → IsQuiet (change_
 quiet_change true address k = refl
 quiet_change false address k = refl
 
+quiet_long : (b : Bool) (m : Message) (address : ℕ) (k : KernelState) → IsQuiet (long_held b m address k).lines
+quiet_long true m address k = refl
+quiet_long false m address k = refl
+
+quiet_within : (b : Bool) (run : Running) (k : KernelState) → IsQuiet (send_within b k run).lines
+quiet_within true run k = refl
+quiet_within false run k = refl
+
+quiet_send : (b : Bool) (run : Running) (k : KernelState) → IsQuiet (send_held b k run).lines
+quiet_send true run k = quiet_within (nat_le (pair k.processor 20) payload_limit) run k
+quiet_send false run k = refl
+
 quiet_serve : (o : Option Service) (run : Running) (k : KernelState) → IsQuiet (serve o run k).lines
 quiet_serve (Some Malloc) run k = refl
 quiet_serve (Some Free) run k = quiet_free (holds k.blocks run.domain (pair k.processor 24)) (pair k.processor 24) k
 quiet_serve (Some ChangeOwn) run k = quiet_change (holds k.blocks run.domain (pair k.processor 24)) (pair k.processor 24) k
 quiet_serve (Some PostShort) run k = refl
+quiet_serve (Some PostLong) run k =
+    quiet_long (holds_bytes k.blocks run.domain (pair k.processor 18) (pair k.processor 20)) (long_message_of k run) (pair k.processor 18) k
+quiet_serve (Some Take) run k = refl
 quiet_serve (Some Say) run k = refl
 quiet_serve (Some Clock) run k = refl
+quiet_serve (Some Send) run k = quiet_send (holds_bytes k.blocks run.domain (pair k.processor 18) (pair k.processor 20)) run k
 quiet_serve (Some MyId) run k = refl
 quiet_serve None run k = refl
 
@@ -139,9 +161,43 @@ quiet_unload : (o : Option Loaded) (id : ℕ) (k : KernelState) (r : RunnerState
 quiet_unload None id k r = refl
 quiet_unload (Some m) id k r = refl
 
+quiet_dump : (k : KernelState) → IsQuiet (dumped k)
+quiet_dump k =
+    filter_all (λ l. not (is_ran l)) (dumped k)
+    (each_dumped (λ l. not (is_ran l) ≡ true)
+    (record {
+      first = λ time. refl;
+      modules = λ id domain state. refl;
+      blocks = λ address bytes owner. refl;
+      messages = λ high from to sort address. refl;
+      last = refl;
+    }) k)
+
 quiet_came : (images : List (Option Prep)) (w : LoaderOrder) (k : KernelState) (r : RunnerState) → IsQuiet (came images w k r).lines
 quiet_came images (what.Load n) k r = quiet_image (slice_get images n) n k r
 quiet_came images (what.Unload id) k r = quiet_unload (module_named k.modules id) id k r
+quiet_came images what.Dump k r = quiet_dump k
+
+-- a packet
+quiet_heard_given : (o : Option Given) (p : Packet) (k : KernelState) → IsQuiet (heard_given o p k).lines
+quiet_heard_given None p k = refl
+quiet_heard_given (Some g) p k = refl
+
+quiet_bytes : (b : Bool) (p : Packet) (k : KernelState) → IsQuiet (heard_bytes b p k).lines
+quiet_bytes true p k = refl
+quiet_bytes false p k = quiet_heard_given (given k kernel (length p.bytes)) p k
+
+quiet_where : (b : Bool) (p : Packet) (k : KernelState) → IsQuiet (heard_where b p k).lines
+quiet_where true p k = quiet_bytes (length p.bytes == 0) p k
+quiet_where false p k = refl
+
+quiet_by : (b : Bool) (p : Packet) (k : KernelState) → IsQuiet (heard_by b p k).lines
+quiet_by true p k = quiet_where (nat_lt (length k.queues.low) queue_limit) p k
+quiet_by false p k = refl
+
+quiet_hear : (o : Option Packet) (k : KernelState) (r : RunnerState) → IsQuiet (hear o k r).lines
+quiet_hear None k r = refl
+quiet_hear (Some p) k r = quiet_by (is_loaded k.modules p.to) p k
 
 quiet_deliver : (o : Option Loaded) (m : Message) (k : KernelState) (r : RunnerState) → IsQuiet (deliver o m k r).lines
 quiet_deliver None m k r = refl
@@ -189,6 +245,7 @@ alike_settled (Fault note) run k r all = alike_faulted note run k r all
 -- A turn of any runner leads to the same state without the lines of instructions,
 pub state_without_ran : (c : Choice) (s : State) (got : Acted) → (made c s got).state ≡ (made c s (without_ran_lines got)).state
 state_without_ran Stays s got = refl
+state_without_ran Hears s got = refl
 state_without_ran (Comes e) s got = refl
 state_without_ran Dispatches s got = refl
 state_without_ran (Jumps now) s got = refl
@@ -202,6 +259,7 @@ state_without_ran (Acts run) s got =
 -- and writes the same but for them.
 pub lines_without_ran : (c : Choice) (s : State) (got : Acted) → without_ran (made c s got).lines ≡ (made c s (without_ran_lines got)).lines
 lines_without_ran Stays s got = refl
+lines_without_ran Hears s got = quiet_hear (slice_get s.packets 0) s.kernel s.runner
 lines_without_ran (Comes e) s got = quiet_came s.images e.what s.kernel s.runner
 lines_without_ran Dispatches s got = quiet_dispatch (front s.kernel.queues) s.kernel s.runner
 lines_without_ran (Jumps now) s got = refl

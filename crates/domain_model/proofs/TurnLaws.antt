@@ -1,10 +1,11 @@
 -- Every turn keeps a state good, and from each good state that is live there is a turn.
-use Rattle.std.proofs.Common.{Ok, Err, ◌≡◌, ℕ, ◌^◌, ◌<◌, List, [], Bool, true, false, refl, sym, ap, ◌∙◌, subst, arith, Option, Some, None, slice_get}
+use Rattle.std.proofs.Common.{Ok, Err, ◌≡◌, ℕ, ◌^◌, ◌<◌, List, [], ◌∷◌, drop, Bool, true, false, refl, sym, ap, ◌∙◌, subst, arith, Option, Some, None, slice_get}
 use Rattle.mote_base.specs.Messages.{front}
 use Rattle.domain_model.specs.declared.event.LoaderOrder.{LoaderOrder}
 use Rattle.domain_model.specs.declared.event.LoaderOrder.TheVariants as what
 use Rattle.domain_model.specs.declared.event.Choice.{Choice}
-use Rattle.domain_model.specs.declared.event.Choice.TheVariants.{Stays, Comes, Dispatches, Jumps, Idles, Budgets, Watches, Acts}
+use Rattle.domain_model.specs.declared.event.Choice.TheVariants.{Stays, Hears, Comes, Dispatches, Jumps, Idles, Budgets, Watches, Acts}
+use Rattle.domain_model.specs.declared.event.Packet.{Packet}
 use Rattle.domain_model.specs.declared.fault.UnitEnd.{UnitEnd}
 use Rattle.domain_model.specs.declared.fault.UnitEnd.TheVariants.{Fault}
 use Rattle.domain_model.specs.declared.handler.Running.{Running}
@@ -16,15 +17,16 @@ use Rattle.domain_model.specs.Modules.{is_loaded, free_domain, module_named}
 use Rattle.domain_model.specs.Given.{Given}
 use Rattle.domain_model.specs.Act.{Acted, act}
 use Rattle.domain_model.specs.Free.{SameBut, SameKernel, SameState, UnitStep, with_memory, is_kernel_byte, unit_free}
-use Rattle.domain_model.specs.Turn.{state_block, came, unload_module, deliver, dispatch, watchdog, load_image, load_prepared, load_new, load_in, load_given, settled, choice, made, May, Leaves, Turn}
-use Rattle.domain_model.specs.Good.{GoodMachine, Good}
+use Rattle.domain_model.specs.Turn.{state_block, came, hear, unload_module, deliver, dispatch, watchdog, load_image, load_prepared, load_new, load_in, load_given, settled, choice, made, May, Leaves, Turn}
+use Rattle.domain_model.specs.Good.{GoodMachine, IsPacket, ArePackets, Good}
 use Rattle.domain_model.specs.Facts.{Facts}
-use Rattle.domain_model.proofs.TimeLaws.{times_drop, times_first}
+use Rattle.domain_model.proofs.TimeLaws.{events_drop, packets_drop, next_below}
 use Rattle.domain_model.proofs.ChoiceLaws.{choice_facts}
 use Rattle.domain_model.proofs.ActLaws.{with_parts, act_changes_alone}
 use Rattle.domain_model.proofs.ByteLists.{bytes_kept}
 use Rattle.domain_model.proofs.CloseLaws.{settled_rests}
 use Rattle.domain_model.proofs.UnitsKept.{act_good, step_good}
+use Rattle.domain_model.proofs.HearLaws.{first_hears, heard_good}
 use Rattle.domain_model.proofs.MachineLaws.{clock_good, memory_good, faulted_good, came_good, dispatch_good, settled_good}
 
 -- The clock.
@@ -57,6 +59,10 @@ unload_clock (Some row) id k r = refl
 pub came_clock : (images : List (Option Prep)) (w : LoaderOrder) (k : KernelState) (r : RunnerState) → (came images w k r).kernel.clock ≡ k.clock
 came_clock images (what.Load n) k r = image_clock (slice_get images n) n k r
 came_clock images (what.Unload id) k r = unload_clock (module_named k.modules id) id k r
+came_clock images what.Dump k r = refl
+
+pub hear_clock : (o : Option Packet) (k : KernelState) (r : RunnerState) → (hear o k r).kernel.clock ≡ k.clock
+hear_clock o k r = ap (λ (n : KernelState). n.clock) (first_hears o k r).alone
 
 deliver_clock : (o : Option Loaded) (m : Message) (k : KernelState) (r : RunnerState) → (deliver o m k r).kernel.clock ≡ k.clock
 deliver_clock None m k r = refl
@@ -69,28 +75,54 @@ dispatch_clock (Some m) k r = deliver_clock (module_named k.modules m.to) m k r
 pub settled_clock : (e : UnitEnd) (run : Running) (k : KernelState) (r : RunnerState) (lines : List TraceLine) → (settled e run k r lines).kernel.clock ≡ k.clock
 settled_clock e run k r lines = (settled_rests e run k r lines).clock
 
--- a unit's step changes the processor, the queues and the blocks alone
-pub step_changes_alone : (k : KernelState) (r : RunnerState) (got : Acted) → UnitStep k r got → got.kernel ≡ with_parts k got.kernel.processor got.kernel.queues got.kernel.blocks
+-- a unit's step changes the processor, the queues, the blocks and the message in hand alone
+pub step_changes_alone : (k : KernelState) (r : RunnerState) (got : Acted) → UnitStep k r got → got.kernel ≡ with_parts k got.kernel.processor got.kernel.queues got.kernel.blocks got.kernel.hand
 step_changes_alone k r got step =
-    let e : with_memory (act k r).kernel got.kernel.processor.memory ≡ with_parts k (with_memory (act k r).kernel got.kernel.processor.memory).processor (act k r).kernel.queues (act k r).kernel.blocks
+    let e : with_memory (act k r).kernel got.kernel.processor.memory ≡ with_parts k (with_memory (act k r).kernel got.kernel.processor.memory).processor (act k r).kernel.queues (act k r).kernel.blocks (act k r).kernel.hand
     = ap (λ (n : KernelState). with_memory n got.kernel.processor.memory) (act_changes_alone k r) in
-    subst (λ (n : KernelState). n ≡ with_parts k n.processor n.queues n.blocks) (sym step.kernel.rest) e
+    subst (λ (n : KernelState). n ≡ with_parts k n.processor n.queues n.blocks n.hand) (sym step.kernel.rest) e
 
--- and these two as the unit itself does
+-- and these three as the unit itself does
 pub step_queues : (k : KernelState) (r : RunnerState) (got : Acted) → UnitStep k r got → got.kernel.queues ≡ (act k r).kernel.queues
 step_queues k r got step = ap (λ (n : KernelState). n.queues) step.kernel.rest
 
 pub step_blocks : (k : KernelState) (r : RunnerState) (got : Acted) → UnitStep k r got → got.kernel.blocks ≡ (act k r).kernel.blocks
 step_blocks k r got step = ap (λ (n : KernelState). n.blocks) step.kernel.rest
 
+pub step_hand : (k : KernelState) (r : RunnerState) (got : Acted) → UnitStep k r got → got.kernel.hand ≡ (act k r).kernel.hand
+step_hand k r got step = ap (λ (n : KernelState). n.hand) step.kernel.rest
+
+-- the first packet comes to a good machine
+first_packet : (packets : List Packet) (k : KernelState) (r : RunnerState) → GoodMachine k r → ArePackets packets → GoodMachine (hear (slice_get packets 0) k r).kernel (hear (slice_get packets 0) k r).runner
+first_packet [] k r h are = h
+first_packet (p ∷ ps) k r h are = heard_good k r p h are.0
+
+packets_left : (packets : List Packet) → ArePackets packets → ArePackets (drop 1 packets)
+packets_left [] are = tt
+packets_left (p ∷ ps) are = are.1
+
 -- What a turn makes of a good state, but for the free bytes.
 
 pub made_good : (c : Choice) (s : State) (got : Acted) → Good s → Facts c s → May c s got → Good (made c s got).state
 made_good Stays s got g facts may = g
+made_good Hears s got g facts may = record {
+  machine = first_packet s.packets s.kernel s.runner g.machine g.packets;
+  images = g.images;
+  packets = packets_left s.packets g.packets;
+  packet_times = packets_drop s.packets g.packet_times;
+  times = g.times;
+  clock = rw (hear_clock (slice_get s.packets 0) s.kernel s.runner) g.clock;
+  total = g.total;
+  units = g.units;
+  spent = g.spent;
+  handler = g.handler;
+}
 made_good (Comes e) s got g facts may = record {
   machine = came_good s.images e.what s.kernel s.runner g.machine facts.outside g.images;
   images = g.images;
-  times = times_drop s.events g.times;
+  packets = g.packets;
+  packet_times = g.packet_times;
+  times = events_drop s.events g.times;
   clock = rw (came_clock s.images e.what s.kernel s.runner) g.clock;
   total = g.total;
   units = g.units;
@@ -100,6 +132,8 @@ made_good (Comes e) s got g facts may = record {
 made_good Dispatches s got g facts may = record {
   machine = dispatch_good s.kernel s.runner g.machine facts.outside;
   images = g.images;
+  packets = g.packets;
+  packet_times = g.packet_times;
   times = g.times;
   clock = rw (dispatch_clock (front s.kernel.queues) s.kernel s.runner) g.clock;
   total = g.total;
@@ -108,12 +142,14 @@ made_good Dispatches s got g facts may = record {
   handler = g.handler;
 }
 made_good (Jumps now) s got g facts may =
-    let time : facts.event.time < 2 ^ 32 = times_first s.events facts.event g.times facts.first in
+    let time : now < 2 ^ 32 = next_below s.packets s.events now g.packet_times g.times facts.next in
     record {
       machine = clock_good s.kernel s.runner now g.machine;
       images = g.images;
+      packets = g.packets;
+      packet_times = g.packet_times;
       times = g.times;
-      clock = omega (arith, time, facts.time_of);
+      clock = omega (arith, time);
       total = g.total;
       units = g.units;
       spent = g.spent;
@@ -122,6 +158,8 @@ made_good (Jumps now) s got g facts may =
 made_good Idles s got g facts may = record {
   machine = g.machine;
   images = g.images;
+  packets = g.packets;
+  packet_times = g.packet_times;
   times = g.times;
   clock = g.clock;
   total = g.total;
@@ -132,6 +170,8 @@ made_good Idles s got g facts may = record {
 made_good Budgets s got g facts may = record {
   machine = g.machine;
   images = g.images;
+  packets = g.packets;
+  packet_times = g.packet_times;
   times = g.times;
   clock = g.clock;
   total = g.total;
@@ -142,6 +182,8 @@ made_good Budgets s got g facts may = record {
 made_good (Watches run) s got g facts may = record {
   machine = faulted_good (watchdog s) run s.kernel s.runner [] g.machine facts.running;
   images = g.images;
+  packets = g.packets;
+  packet_times = g.packet_times;
   times = g.times;
   clock = rw (settled_clock (Fault (watchdog s)) run s.kernel s.runner []) g.clock;
   total = g.total;
@@ -159,6 +201,8 @@ made_good (Acts run) s got g facts may =
           clock_good (settled got.ending run got.kernel got.runner got.lines).kernel (settled got.ending run got.kernel got.runner got.lines).runner _
           (settled_good got.ending run got.kernel got.runner got.lines (step_good s.kernel s.runner got may g.machine) running);
       images = g.images;
+      packets = g.packets;
+      packet_times = g.packet_times;
       times = g.times;
       clock = omega (arith, clock, g.clock);
       total = omega (arith, facts.total, g.total);
@@ -182,6 +226,8 @@ bytes_good free s memory same g = record {
       memory_good s.kernel s.runner memory same.same_length
       (bytes_kept free s.kernel.processor.memory memory same g.machine.processor.memory_bytes) g.machine;
   images = g.images;
+  packets = g.packets;
+  packet_times = g.packet_times;
   times = g.times;
   clock = g.clock;
   total = g.total;
@@ -197,6 +243,7 @@ same_state_good free want t same g =
 -- What holds of a state and of each that differs in its bytes holds after each turn.
 pub leaves : (P : State → Type 0) → ((free : ℕ → Bool) (s : State) (memory : List ℕ) → SameBut free s.kernel.processor.memory memory → P s → P (with_bytes s memory)) → (c : Choice) (want t : State) → Leaves c want t → P want → P t
 leaves P f Stays want t to p = subst P (sym to) p
+leaves P f Hears want t to p = subst P (sym (same_state is_kernel_byte want t to)) (f is_kernel_byte want t.kernel.processor.memory to.kernel.memory p)
 leaves P f (Comes e) want t to p = subst P (sym (same_state is_kernel_byte want t to)) (f is_kernel_byte want t.kernel.processor.memory to.kernel.memory p)
 leaves P f Dispatches want t to p = subst P (sym (same_state is_kernel_byte want t to)) (f is_kernel_byte want t.kernel.processor.memory to.kernel.memory p)
 leaves P f (Jumps now) want t to p = subst P (sym (same_state is_kernel_byte want t to)) (f is_kernel_byte want t.kernel.processor.memory to.kernel.memory p)
@@ -228,6 +275,7 @@ step_itself k r h = record {
 -- each choice may have that unit, and leaves what is made of the state
 pub may_itself : (c : Choice) (s : State) → Good s → May c s (act s.kernel s.runner)
 may_itself Stays s g = tt
+may_itself Hears s g = tt
 may_itself (Comes e) s g = tt
 may_itself Dispatches s g = tt
 may_itself (Jumps now) s g = tt
@@ -241,6 +289,7 @@ same_state_itself s g = record { kernel = same_kernel is_kernel_byte s.kernel g.
 
 pub leaves_itself : (c : Choice) (s : State) → Good s → Leaves c s s
 leaves_itself Stays s g = refl
+leaves_itself Hears s g = same_state_itself s g
 leaves_itself (Comes e) s g = same_state_itself s g
 leaves_itself Dispatches s g = same_state_itself s g
 leaves_itself (Jumps now) s g = same_state_itself s g

@@ -11,23 +11,27 @@ use Rattle.domain_model.specs.declared.line.TraceLine.{TraceLine}
 use Rattle.avr_machine.specs.Processor.{low, high}
 use Rattle.domain_model.specs.Modules.{id_at, is_loaded, module_named}
 use Rattle.domain_model.specs.Turn.{entered}
-use Rattle.domain_model.specs.Good.{GoodProcessor, GoodModule, GoodMachine, GoodHandler, GoodRunning, GoodQueues, AreOwned, IsFramed, IsKnown}
+use Rattle.domain_model.specs.Good.{GoodProcessor, GoodModule, GoodMachine, GoodHand, GoodHandler, GoodRunning, GoodQueues, AreOwned, IsFramed, IsKnown}
 use Rattle.domain_model.proofs.Kept.{each_contained}
 use Rattle.domain_model.proofs.ModuleLaws.{found, contained_in_use, id_at_loaded}
-use Rattle.domain_model.proofs.BlockLaws.{given_good, owned_fewer, owned_handed}
+use Rattle.domain_model.proofs.BlockLaws.{given_good, holds_none, holds_bytes-true, freed_stays, changed_stays, lifted_gains, settled_loses, owned_fewer, owned_handed}
+use Rattle.domain_model.proofs.PayloadLaws.{payloads_stay, payloads_posted, payloads_gained, payloads_taken}
 use Rattle.std.proofs.lemmas.Bool.{or_cases, and_parts, ltb-true, leb-true}
-use Rattle.std.proofs.Common.{◌≡◌, inl, inr, ℕ, ◌+◌, ◌%◌, ◌^◌, ◌<◌, ◌≤◌, ◌==◌, ◌&&◌, nat_lt, nat_le, List, [], length, Bool, true, false, refl, sym, ◌∙◌, subst, arith, Option, Some, None}
-use Rattle.mote_layout.specs.Memory.{ram_end, red_zone_start, floor}
+use Rattle.std.proofs.Common.{◌≡◌, inl, inr, ℕ, ◌+◌, ◌%◌, ◌^◌, ◌<◌, ◌≤◌, ◌==◌, ◌&&◌, nat_lt, nat_le, List, [], length, Bool, true, false, refl, sym, ap, ◌∙◌, subst, arith, Option, Some, None}
+use Rattle.mote_layout.specs.Memory.{ram_end, red_zone_start, floor, domain_count, kernel}
+use Rattle.mote_layout.specs.Limits.{payload_limit}
+use Rattle.mote_layout.specs.Parcels.{Payload, IsParcelOf}
 use Rattle.mote_layout.proofs.BlockLists.{AreBlocks-without, AreBlocks-handed_over}
 use Rattle.unit_code.specs.declared.unit.Unit.TheVariants.{Plain, Store, Push, Pop, SpGroup, Reserve, Skip, Branch, Jump, KernelCall, Return}
-use Rattle.domain_model.specs.Units.{IsBuilt, Service, Malloc, Free, ChangeOwn, PostShort, Say, Clock, MyId, service_of}
-use Rattle.domain_model.specs.State.{Loaded, Processor, Message, KernelState, RunnerState, with_processor, register, pair, with_pair}
+use Rattle.domain_model.specs.Units.{IsBuilt, Service, Malloc, Free, ChangeOwn, PostShort, PostLong, Take, Say, Clock, Send, MyId, service_of}
+use Rattle.domain_model.specs.State.{Loaded, Processor, Message, KernelState, RunnerState, payload_address, with_processor, register, pair, with_pair}
+use Rattle.domain_model.specs.Payloads.{holds_bytes, load_of, IsHeld, HoldsPayloads}
 use Rattle.domain_model.specs.Act.{Acted, goes_to, goes_on, act, act_running, act_at, act_effect, act_under, act_group, act_reserve, act_skip, act_branch, act_return, act_call, passes, taken, group_sp, group_effect, reserved, has_room, plain_effect, store_address, may_store, bank, next_unit}
-use Rattle.domain_model.specs.Calls.{answered, malloc_given, free_held, changed_to, change_held, message_of, post_where, post_to, serve}
+use Rattle.domain_model.specs.Calls.{answered, malloc_given, free_held, changed_to, change_held, message_of, post_where, post_to, long_message_of, carrying, long_where, long_to, long_held, payload_taken, take_by, take_hand, send_within, send_held, serve}
 use Rattle.domain_model.specs.Given.{Given, given}
 use Rattle.domain_model.specs.Free.{unit_free, calls_kernel, ends_handler, UnitStep}
-use Rattle.mote_layout.specs.Blocks.{AreBlocks, block_of, without, handed_over, owns}
-use Rattle.mote_layout.specs.Requests.{holds}
+use Rattle.mote_layout.specs.Blocks.{AreBlocks, block_address, block_of, without, handed_over, owns}
+use Rattle.mote_layout.specs.Requests.{holds, HoldsBytes}
 use Rattle.mote_layout.specs.declared.segment.Segment.{Segment}
 use Rattle.avr_isa.specs.declared.instruction.Instr.TheVariants as instr
 use Rattle.domain_model.specs.declared.fault.Rule.{Rule}
@@ -44,14 +48,16 @@ pub record IsMoved (k : KernelState) (r : RunnerState) (run : Running) (p : Proc
   pub moves : Moves (MayChange k run) run.base k.processor p
   pub within : unit < length (bank r run.domain)
 
--- Or the kernel serves it: the stack pointer stays, and queues and blocks stay good.
+-- Or the kernel serves it: the stack pointer stays, and queues, blocks and the message in hand stay good.
 pub record IsServed (k n : KernelState) : Type 0 where
-  pub alone : n ≡ with_parts k n.processor n.queues n.blocks
+  pub alone : n ≡ with_parts k n.processor n.queues n.blocks n.hand
   pub sp : n.processor.sp ≡ k.processor.sp
   pub processor : GoodProcessor n.processor
   pub queues : GoodQueues k.modules n.queues
   pub blocks : AreBlocks n.blocks
   pub owners : AreOwned k.modules n.blocks
+  pub hand : GoodHand k.modules n.hand
+  pub payloads : HoldsPayloads n.blocks n.queues n.hand
 
 -- The three ways of a unit from a good state.
 pub data GoodOutcome (calls : Bool) (k : KernelState) (r : RunnerState) (run : Running) : Acted → Type 0 where
@@ -158,25 +164,32 @@ module _ (k : KernelState) (r : RunnerState) (run : Running) (h : GoodMachine k 
         sreg_byte = bytes.sreg;
       }
 
-  answer_served : (queues : Lists Message) (blocks : List Segment) (answer : ℕ) → answer < 2 ^ 16 → GoodQueues k.modules queues → AreBlocks blocks → AreOwned k.modules blocks → IsServed k (answered (record k { queues = queues; blocks = blocks }) answer)
-  answer_served queues blocks answer small waiting are owned = record {
+  answer_served : (queues : Lists Message) (blocks : List Segment) (answer : ℕ) → answer < 2 ^ 16 → GoodQueues k.modules queues → AreBlocks blocks → AreOwned k.modules blocks → HoldsPayloads blocks queues k.hand → IsServed k (answered (record k { queues = queues; blocks = blocks }) answer)
+  answer_served queues blocks answer small waiting are owned held = record {
     alone = refl;
     sp = refl;
     processor = answered_good k.processor answer small h.processor;
     queues = waiting;
     blocks = are;
     owners = owned;
+    hand = (running_good k r run h e).1;
+    payloads = held;
   }
 
   just_answered : (answer : ℕ) → answer < 2 ^ 16 → IsServed k (answered k answer)
-  just_answered answer small = answer_served k.queues k.blocks answer small h.queues h.blocks h.owners
+  just_answered answer small = answer_served k.queues k.blocks answer small h.queues h.blocks h.owners h.payloads
+
+  -- the running domain is one
+  own_domain : run.domain < domain_count
+  own_domain =
+      let f = found k.modules run.domain good_run.loaded in
+      omega (arith, (each_contained (GoodModule r) k.modules f.row h.modules f.contained).domain, f.domain_of)
 
   malloc_served : (o : Option Given) → given k run.domain (pair k.processor 24) ≡ o → IsServed k (malloc_given o k)
   malloc_served None is = just_answered 0 (omega arith)
   malloc_served (Some g) is =
-      let f = found k.modules run.domain good_run.loaded in
-      let domain = (each_contained (GoodModule r) k.modules f.row h.modules f.contained).domain in
-      let block = given_good k run.domain (pair k.processor 24) g h.blocks h.processor.memory (omega (arith, domain, f.domain_of)) is in
+      let domain = own_domain in
+      let block = given_good k run.domain (pair k.processor 24) g h.blocks h.processor.memory (omega (arith, domain)) is in
       record {
         alone = refl;
         sp = refl;
@@ -189,29 +202,39 @@ module _ (k : KernelState) (r : RunnerState) (run : Running) (h : GoodMachine k 
         });
         queues = h.queues;
         blocks = block.blocks;
-        owners = block.owners k.modules h.owners good_run.loaded;
+        owners = block.owners k.modules h.owners (inr good_run.loaded);
+        hand = (running_good k r run h e).1;
+        payloads = payloads_stay k.blocks g.blocks k.queues k.hand (block.stays domain) h.payloads;
       }
 
-  free_goes : (b : Bool) (address : ℕ) → r.unit + 1 < length (bank r run.domain) → GoodOutcome true k r run (act_call (free_held b address k) r)
-  free_goes false address behind = good_ends _ refl
-  free_goes true address behind =
-      good_serves _ [] refl (answer_served k.queues (without (block_of address) k.blocks) 0 (omega arith) h.queues (AreBlocks-without (block_of address) k.blocks h.blocks) (owned_fewer k.modules (block_of address) k.blocks h.owners)) behind
+  free_goes : (b : Bool) (address : ℕ) → holds k.blocks run.domain address ≡ b → r.unit + 1 < length (bank r run.domain) → GoodOutcome true k r run (act_call (free_held b address k) r)
+  free_goes false address is behind = good_ends _ refl
+  free_goes true address is behind =
+      good_serves _ [] refl
+      (answer_served k.queues (without (block_of address) k.blocks) 0 (omega arith) h.queues (AreBlocks-without (block_of address) k.blocks h.blocks)
+      (owned_fewer k.modules (block_of address) k.blocks h.owners)
+      (payloads_stay k.blocks (without (block_of address) k.blocks) k.queues k.hand
+      (freed_stays k.blocks run.domain address 0 h.blocks own_domain ((holds_none k.blocks run.domain address).0 is)) h.payloads)) behind
 
-  changed_served : (o : Option Loaded) (address : ℕ) → module_named k.modules (register k.processor 22) ≡ o → IsServed k (changed_to o address k)
-  changed_served None address is = just_answered 1 (omega arith)
-  changed_served (Some owner) address is =
+  changed_served : (o : Option Loaded) (address : ℕ) → holds k.blocks run.domain address ≡ true → module_named k.modules (register k.processor 22) ≡ o → IsServed k (changed_to o address k)
+  changed_served None address own is = just_answered 1 (omega arith)
+  changed_served (Some owner) address own is =
       let to = named_good k r (register k.processor 22) owner h is in
       answer_served k.queues (handed_over (block_of address) owner.domain k.blocks) 0 (omega arith) h.queues
       (AreBlocks-handed_over (block_of address) owner.domain k.blocks (omega (arith, to.below)) h.blocks)
-      (owned_handed k.modules (block_of address) owner.domain k.blocks (contained_in_use k.modules owner to.contained) h.owners)
+      (owned_handed k.modules (block_of address) owner.domain k.blocks (inr (contained_in_use k.modules owner to.contained)) h.owners)
+      (payloads_stay k.blocks (handed_over (block_of address) owner.domain k.blocks) k.queues k.hand
+      (changed_stays k.blocks run.domain address 0 owner.domain h.blocks own_domain to.below ((holds_none k.blocks run.domain address).0 own)) h.payloads)
 
-  change_goes : (b : Bool) (address : ℕ) → r.unit + 1 < length (bank r run.domain) → GoodOutcome true k r run (act_call (change_held b address k) r)
-  change_goes false address behind = good_ends _ refl
-  change_goes true address behind = good_serves _ [] refl (changed_served (module_named k.modules (register k.processor 22)) address refl) behind
+  change_goes : (b : Bool) (address : ℕ) → holds k.blocks run.domain address ≡ b → r.unit + 1 < length (bank r run.domain) → GoodOutcome true k r run (act_call (change_held b address k) r)
+  change_goes false address is behind = good_ends _ refl
+  change_goes true address is behind = good_serves _ [] refl (changed_served (module_named k.modules (register k.processor 22)) address is refl) behind
 
-  where_served : (b : Bool) (m : Message) → IsKnown k.modules m → nat_lt (length (list_of m.high k.queues)) queue_limit ≡ b → IsServed k (post_where b m k)
-  where_served true m known room = answer_served (appended m.high m k.queues) k.blocks 0 (omega arith) (queues_posted k.modules m.high m k.queues known room h.queues) h.blocks h.owners
-  where_served false m known room = just_answered 1 (omega arith)
+  where_served : (b : Bool) (m : Message) → m.load ≡ None → IsKnown k.modules m → nat_lt (length (list_of m.high k.queues)) queue_limit ≡ b → IsServed k (post_where b m k)
+  where_served true m none known room =
+      answer_served (appended m.high m k.queues) k.blocks 0 (omega arith) (queues_posted k.modules m.high m k.queues known room h.queues) h.blocks h.owners
+      (payloads_posted k.blocks k.queues k.hand m none h.payloads)
+  where_served false m none known room = just_answered 1 (omega arith)
 
   -- a post's message takes its numbers from the registers
   post_framed : IsFramed (message_of k run)
@@ -228,21 +251,116 @@ module _ (k : KernelState) (r : RunnerState) (run : Running) (h : GoodMachine k 
   -- and it is known: its receiver is loaded, and so is its sender, which runs
   to_served : (b : Bool) → is_loaded k.modules (message_of k run).to ≡ b → IsServed k (post_to b (message_of k run) k)
   to_served true there =
-      where_served (nat_lt (length (list_of (message_of k run).high k.queues)) queue_limit) (message_of k run)
-      (record { receiver = there; sender = inr (id_at_loaded k.modules run.domain good_run.loaded); framed = post_framed; load = refl }) refl
+      where_served (nat_lt (length (list_of (message_of k run).high k.queues)) queue_limit) (message_of k run) refl
+      (record { receiver = there; sender = inr (id_at_loaded k.modules run.domain good_run.loaded); framed = post_framed; load = tt }) refl
   to_served false there = just_answered 2 (omega arith)
+
+  -- a long post's message, with its payload
+  long_known : (address : ℕ) → address < 2 ^ 16 → is_loaded k.modules (long_message_of k run).to ≡ true → IsKnown k.modules (carrying (long_message_of k run) (block_of address))
+  long_known address small there = record {
+    receiver = there;
+    sender = inr (id_at_loaded k.modules run.domain good_run.loaded);
+    framed = record {
+      to = h.processor.register_bytes 24;
+      from = id_byte r k.modules run.domain h.modules;
+      sort = h.processor.register_bytes 22;
+      byte = omega arith;
+      word = omega arith;
+      len = pair_word k.processor 20 h.processor.register_bytes;
+      address = omega (arith, small);
+    };
+    load = refl;
+  }
+
+  long_served : (b : Bool) (address : ℕ) → address < 2 ^ 16 → HoldsBytes k.blocks run.domain address (long_message_of k run).len → is_loaded k.modules (long_message_of k run).to ≡ true → nat_lt (length (list_of (long_message_of k run).high k.queues)) queue_limit ≡ b → IsServed k (long_where b (long_message_of k run) address k)
+  long_served true address small own there room =
+      let m = carrying (long_message_of k run) (block_of address) in
+      let now = handed_over (block_of address) kernel k.blocks in
+      answer_served (appended m.high m k.queues) now 0 (omega arith) (queues_posted k.modules m.high m k.queues (long_known address small there) room h.queues)
+      (AreBlocks-handed_over (block_of address) kernel k.blocks (omega arith) h.blocks) (owned_handed k.modules (block_of address) kernel k.blocks (inl refl) h.owners)
+      (payloads_gained k.blocks now k.queues k.hand m (record { block = block_of address; len = m.len }) refl
+      (lifted_gains k.blocks run.domain address m.len h.blocks own_domain own) h.payloads)
+  long_served false address small own there room = just_answered 1 (omega arith)
+
+  long_to_served : (b : Bool) (address : ℕ) → address < 2 ^ 16 → HoldsBytes k.blocks run.domain address (long_message_of k run).len → is_loaded k.modules (long_message_of k run).to ≡ b → IsServed k (long_to b (long_message_of k run) address k)
+  long_to_served true address small own there =
+      long_served (nat_lt (length (list_of (long_message_of k run).high k.queues)) queue_limit) address small own there refl
+  long_to_served false address small own there = just_answered 2 (omega arith)
+
+  long_goes : (b : Bool) → holds_bytes k.blocks run.domain (pair k.processor 18) (pair k.processor 20) ≡ b → r.unit + 1 < length (bank r run.domain) → GoodOutcome true k r run (act_call (long_held b (long_message_of k run) (pair k.processor 18) k) r)
+  long_goes false is behind = good_ends _ refl
+  long_goes true is behind =
+      good_serves _ [] refl
+      (long_to_served (is_loaded k.modules (long_message_of k run).to) (pair k.processor 18) (pair_word k.processor 18 h.processor.register_bytes)
+      ((holds_bytes-true k.blocks run.domain (pair k.processor 18) (pair k.processor 20)).0 is) refl) behind
+
+  -- the message in hand, once its payload was taken
+  taken_served : (o : Option Payload) (m : Message) → k.hand ≡ Some m → m.load ≡ o → IsServed k (payload_taken o m run k)
+  taken_served None m hand load = just_answered 0 (omega arith)
+  taken_served (Some p) m hand load =
+      let known : IsKnown k.modules m = subst (GoodHand k.modules) hand (running_good k r run h e).1 in
+      let in_hand : load_of k.hand ≡ Some p = ap load_of hand ∙ load in
+      let parcel : IsParcelOf k.blocks p = subst (λ (o : Option Payload). IsHeld k.blocks o) in_hand h.payloads.in_hand in
+      let domain = own_domain in
+      let now = handed_over p.block run.domain k.blocks in
+      let are = AreBlocks-handed_over p.block run.domain k.blocks (omega (arith, domain)) h.blocks in
+      let small : block_address p.block < 2 ^ 16 = subst (λ (o : Option Payload). payload_address o < 2 ^ 16) load known.framed.address in
+      record {
+        alone = refl;
+        sp = refl;
+        processor = answered_good k.processor (block_address p.block) small h.processor;
+        queues = h.queues;
+        blocks = are;
+        owners = owned_handed k.modules p.block run.domain k.blocks (inr good_run.loaded) h.owners;
+        hand = record {
+          receiver = known.receiver;
+          sender = known.sender;
+          framed = record {
+            to = known.framed.to;
+            from = known.framed.from;
+            sort = known.framed.sort;
+            byte = known.framed.byte;
+            word = known.framed.word;
+            len = known.framed.len;
+            address = omega arith;
+          };
+          load = tt;
+        };
+        payloads =
+            payloads_taken k.blocks now k.queues k.hand (Some (record m { load = None })) p in_hand refl are (settled_loses k.blocks p run.domain h.blocks parcel domain)
+            h.payloads;
+      }
+
+  take_by_served : (b : Bool) (m : Message) → k.hand ≡ Some m → IsServed k (take_by b m run k)
+  take_by_served true m hand = taken_served m.load m hand refl
+  take_by_served false m hand = just_answered 0 (omega arith)
+
+  take_served : (o : Option Message) → k.hand ≡ o → IsServed k (take_hand o run k)
+  take_served None hand = just_answered 0 (omega arith)
+  take_served (Some m) hand = take_by_served (m.to == id_at k.modules run.domain) m hand
+
+  within_goes : (b : Bool) → r.unit + 1 < length (bank r run.domain) → GoodOutcome true k r run (act_call (send_within b k run) r)
+  within_goes true behind = good_serves _ _ refl (just_answered 0 (omega arith)) behind
+  within_goes false behind = good_serves _ [] refl (just_answered 1 (omega arith)) behind
+
+  send_goes : (b : Bool) → r.unit + 1 < length (bank r run.domain) → GoodOutcome true k r run (act_call (send_held b k run) r)
+  send_goes false behind = good_ends _ refl
+  send_goes true behind = within_goes (nat_le (pair k.processor 20) payload_limit) behind
 
   call_goes : (o : Option Service) → r.unit + 1 < length (bank r run.domain) → GoodOutcome true k r run (act_call (serve o run k) r)
   call_goes (Some Malloc) behind = good_serves _ [] refl (malloc_served (given k run.domain (pair k.processor 24)) refl) behind
-  call_goes (Some Free) behind = free_goes (holds k.blocks run.domain (pair k.processor 24)) (pair k.processor 24) behind
-  call_goes (Some ChangeOwn) behind = change_goes (holds k.blocks run.domain (pair k.processor 24)) (pair k.processor 24) behind
+  call_goes (Some Free) behind = free_goes (holds k.blocks run.domain (pair k.processor 24)) (pair k.processor 24) refl behind
+  call_goes (Some ChangeOwn) behind = change_goes (holds k.blocks run.domain (pair k.processor 24)) (pair k.processor 24) refl behind
   call_goes (Some PostShort) behind = good_serves _ [] refl (to_served (is_loaded k.modules (message_of k run).to) refl) behind
+  call_goes (Some PostLong) behind = long_goes (holds_bytes k.blocks run.domain (pair k.processor 18) (pair k.processor 20)) refl behind
+  call_goes (Some Take) behind = good_serves _ [] refl (take_served k.hand refl) behind
   call_goes (Some Say) behind = good_serves _ _ refl (just_answered 0 (omega arith)) behind
   call_goes (Some Clock) behind = good_serves _ [] refl (just_answered (k.clock % 65536) (omega arith)) behind
+  call_goes (Some Send) behind = send_goes (holds_bytes k.blocks run.domain (pair k.processor 18) (pair k.processor 20)) behind
   call_goes (Some MyId) behind =
       good_serves _ [] refl (just_answered (id_at k.modules run.domain) (omega (arith, id_byte r k.modules run.domain h.modules))) behind
   call_goes None behind =
-      good_serves k [] refl (record { alone = refl; sp = refl; processor = h.processor; queues = h.queues; blocks = h.blocks; owners = h.owners }) behind
+      good_serves k [] refl (record { alone = refl; sp = refl; processor = h.processor; queues = h.queues; blocks = h.blocks; owners = h.owners; hand = (running_good k r run h e).1; payloads = h.payloads }) behind
 
   at_goes : (o : Option Unit) → next_unit r run ≡ o → GoodOutcome (calls_kernel o) k r run (act_at o run k r)
   at_goes None next = good_ends Over refl
@@ -285,6 +403,7 @@ module _ (k : KernelState) (r : RunnerState) (run : Running) (h : GoodMachine k 
     blocks = h.blocks;
     owners = h.owners;
     queues = h.queues;
+    payloads = h.payloads;
     handler =
         let good = running_good k r run h e in
         subst (GoodHandler (with_processor k p) (entered r unit)) (sym e) (
@@ -297,7 +416,7 @@ module _ (k : KernelState) (r : RunnerState) (run : Running) (h : GoodMachine k 
   served_good : (n : KernelState) → IsServed k n → r.unit + 1 < length (bank r run.domain) → GoodMachine n (entered r (r.unit + 1))
   served_good n s behind =
       let good = running_good k r run h e in
-      let now = with_parts k n.processor n.queues n.blocks in
+      let now = with_parts k n.processor n.queues n.blocks n.hand in
       subst (λ (x : KernelState). GoodMachine x (entered r (r.unit + 1))) (sym s.alone) (record {
         processor = s.processor;
         banks = h.banks;
@@ -306,10 +425,11 @@ module _ (k : KernelState) (r : RunnerState) (run : Running) (h : GoodMachine k 
         blocks = s.blocks;
         owners = s.owners;
         queues = s.queues;
+        payloads = s.payloads;
         handler =
             subst (GoodHandler now (entered r (r.unit + 1))) (sym e) (
               running_kept k now r (entered r (r.unit + 1)) run s.sp refl behind good.0,
-              good.1,
+              s.hand,
               ending_kept k now run k.ending refl good.2,
             );
       })

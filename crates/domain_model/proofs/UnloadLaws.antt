@@ -14,7 +14,7 @@ use Rattle.mote_layout.specs.declared.segment.Segment.{Segment}
 use Rattle.domain_model.specs.declared.event.LoaderOrder.{LoaderOrder}
 use Rattle.domain_model.specs.declared.event.LoaderOrder.TheVariants as what
 use Rattle.domain_model.specs.declared.event.Choice.{Choice}
-use Rattle.domain_model.specs.declared.event.Choice.TheVariants.{Stays, Comes, Dispatches, Jumps, Idles, Budgets, Watches, Acts}
+use Rattle.domain_model.specs.declared.event.Choice.TheVariants.{Stays, Hears, Comes, Dispatches, Jumps, Idles, Budgets, Watches, Acts}
 use Rattle.domain_model.specs.declared.fault.FaultNote.{FaultNote}
 use Rattle.domain_model.specs.declared.fault.UnitEnd.{UnitEnd}
 use Rattle.domain_model.specs.declared.fault.UnitEnd.TheVariants.{On, Over, Fault}
@@ -25,9 +25,12 @@ use Rattle.domain_model.specs.Prepared.{Module, Prep}
 use Rattle.domain_model.specs.State.{Loaded, Message, KernelState, RunnerState, State, seats}
 use Rattle.domain_model.specs.Modules.{id_at, is_loaded, in_use, module_named, without_domain, free_domain}
 use Rattle.domain_model.specs.Given.{Given}
+use Rattle.domain_model.specs.Payloads.{namings}
+use Rattle.domain_model.specs.Dump.{dumped}
+use Rattle.domain_model.specs.declared.event.Packet.{Packet}
 use Rattle.domain_model.specs.Act.{Acted}
 use Rattle.domain_model.specs.Free.{UnitStep, with_memory}
-use Rattle.domain_model.specs.Turn.{state_block, Moved, unload_module, deliver, dispatch, emptied, came, load_image, load_prepared, refused_file, load_new, load_in, load_given, settled, faulted, watchdog, choice, made, May, Turn}
+use Rattle.domain_model.specs.Turn.{state_block, Moved, unload_module, deliver, dispatch, emptied, came, hear, load_image, load_prepared, refused_file, load_new, load_in, load_given, settled, faulted, watchdog, choice, made, May, Turn}
 use Rattle.domain_model.specs.Good.{GoodMachine, GoodModule, Good}
 use Rattle.domain_model.specs.Laws.{Names, a_module, a_slot, a_message, the_message, a_block, a_lost_payload, the_running, UnloadsCleanly}
 use Rattle.domain_model.specs.Facts.{Facts}
@@ -36,6 +39,10 @@ use Rattle.domain_model.proofs.ChoiceLaws.{choice_facts}
 use Rattle.domain_model.proofs.ModuleLaws.{found, contained_without, other_domain, same_module, row_of_domain}
 use Rattle.domain_model.proofs.ActLaws.{is_unload, running_good, act_unloads_nothing}
 use Rattle.domain_model.proofs.UnitsKept.{step_good}
+use Rattle.domain_model.proofs.MachineLaws.{unnamed_blocks, purged_good}
+use Rattle.domain_model.proofs.SegmentLaws.{contained_entry}
+use Rattle.domain_model.proofs.DumpLaws.{each_dumped}
+use Rattle.domain_model.proofs.HearLaws.{first_hears}
 use Rattle.domain_model.proofs.CloseLaws.{gone, faulted_is, over_is, over_ending_is}
 use Rattle.domain_model.proofs.TurnLaws.{leaves, step_changes_alone}
 
@@ -53,7 +60,7 @@ seat_contained (s ∷ ss) id seat e =
     ]
 
 -- a loaded domain is no kernel
-used_below : (k : KernelState) (r : RunnerState) (domain : ℕ) → GoodMachine k r → in_use k.modules domain ≡ true → domain < kernel
+pub used_below : (k : KernelState) (r : RunnerState) (domain : ℕ) → GoodMachine k r → in_use k.modules domain ≡ true → domain < kernel
 used_below k r domain h used =
     let f = found k.modules domain used in
     let g = each_contained (GoodModule r) k.modules f.row h.modules f.contained in
@@ -119,13 +126,11 @@ purged_names k r m h c (a_message x cx same) =
     ]
 purged_names k r m h c (the_message n hand same) = absurd (cc)
 purged_names k r m h c (a_block b cb owner) =
-    let kept = contained_filter (λ (s : Segment). not (s.owner == m.domain)) k.blocks b cb in
+    let kept = contained_filter (λ (s : Segment). not (s.owner == m.domain)) (unnamed_blocks k m.face.id) b cb in
     other_domain b.owner m.domain kept.1 owner
-purged_names k r m h c (a_lost_payload b cb owner) =
-    let kept = contained_filter (λ (s : Segment). not (s.owner == m.domain)) k.blocks b cb in
-    let used = each_contained (λ (s : Segment). in_use k.modules s.owner ≡ true) k.blocks b h.owners kept.0 in
-    let below = used_below k r b.owner h used in
-    omega (arith, below, owner)
+purged_names k r m h c (a_lost_payload b cb owner none) =
+    let left = purged_good k r m h c in
+    omega (arith, contained_entry (gone k m.face.id m.domain).blocks b cb owner, left.payloads.once b.first, none)
 purged_names k r m h c (the_running run running same) = absurd (cc)
 
 -- what names something names it also in a kernel with the same lists
@@ -136,7 +141,9 @@ names_alike k n id domain modules queues hand blocks running (a_slot d i p place
 names_alike k n id domain modules queues hand blocks running (a_message m c e) = a_message m (subst (λ (q : Lists Message). Contains (in_order q) m) queues c) e
 names_alike k n id domain modules queues hand blocks running (the_message m e same) = the_message m (sym hand ∙ e) same
 names_alike k n id domain modules queues hand blocks running (a_block b c e) = a_block b (subst (λ (bs : List Segment). Contains bs b) blocks c) e
-names_alike k n id domain modules queues hand blocks running (a_lost_payload b c e) = a_lost_payload b (subst (λ (bs : List Segment). Contains bs b) blocks c) e
+names_alike k n id domain modules queues hand blocks running (a_lost_payload b c e none) =
+    a_lost_payload b (subst (λ (bs : List Segment). Contains bs b) blocks c) e
+    (ap (λ (q : Lists Message). namings b.first q k.hand) (sym queues) ∙ ap (λ (m : Option Message). namings b.first n.queues m) (sym hand) ∙ none)
 names_alike k n id domain modules queues hand blocks running (the_running run e same) = the_running run (sym running ∙ e) same
 
 -- Lines that unload no module.
@@ -175,6 +182,19 @@ unload_quiet (Some row) id k r = quiet_by (line.Run k.clock id 1 0 ∷ []) refl
 pub came_quiet : (images : List (Option Prep)) (w : LoaderOrder) (k : KernelState) (r : RunnerState) → IsQuiet (came images w k r).lines
 came_quiet images (what.Load n) k r = image_quiet (slice_get images n) n k r
 came_quiet images (what.Unload id) k r = unload_quiet (module_named k.modules id) id k r
+came_quiet images what.Dump k r = λ time id c.
+    true≢false (each_contained (λ x. is_unload x ≡ false) (dumped k) (line.Unload time id)
+    (each_dumped (λ x. is_unload x ≡ false)
+    (record {
+      first = λ time. refl;
+      modules = λ id domain state. refl;
+      blocks = λ address bytes owner. refl;
+      messages = λ high from to sort address. refl;
+      last = refl;
+    }) k) c)
+
+pub hear_quiet : (o : Option Packet) (k : KernelState) (r : RunnerState) → IsQuiet (hear o k r).lines
+hear_quiet o k r = quiet_by (hear o k r).lines (first_hears o k r).quiet
 
 deliver_quiet : (o : Option Loaded) (m : Message) (k : KernelState) (r : RunnerState) → IsQuiet (deliver o m k r).lines
 deliver_quiet None m k r = quiet_by [] refl
@@ -268,6 +288,7 @@ unloaded_clean k r run m moved h c u = subst (λ (x : KernelState). ¬ Names x m
 
 made_clean : (c : Choice) (s : State) (got : Acted) → Good s → Facts c s → May c s got → UnloadsCleanly s (made c s got).state (made c s got).lines
 made_clean Stays s got g facts may time m c cm = absurd (quiet_by [] refl time m.face.id c)
+made_clean Hears s got g facts may time m c cm = absurd (hear_quiet (slice_get s.packets 0) s.kernel s.runner time m.face.id c)
 made_clean (Comes e) s got g facts may time m c cm = absurd (came_quiet s.images e.what s.kernel s.runner time m.face.id c)
 made_clean Dispatches s got g facts may time m c cm = absurd (dispatch_quiet (front s.kernel.queues) s.kernel s.runner time m.face.id c)
 made_clean (Jumps now) s got g facts may time m c cm = absurd (quiet_by [] refl time m.face.id c)

@@ -1,7 +1,10 @@
 -- What each kernel call does. Its answer is in R25:R24; all other registers, SREG and SP stay.
-use Rattle.std.specs.Prelude.{ℕ, ◌%◌, ◌==◌, nat_lt, List, [], ◌∷◌, length, Bool, true, false, Option, Some, None}
+use Rattle.std.specs.Prelude.{ℕ, ◌%◌, ◌==◌, nat_lt, nat_le, List, [], ◌∷◌, length, Bool, true, false, Option, Some, None}
 use Rattle.mote_base.specs.Messages.{list_of, appended, queue_limit}
-use Rattle.mote_layout.specs.Blocks.{block_of, without, handed_over}
+use Rattle.mote_layout.specs.Memory.{kernel}
+use Rattle.mote_layout.specs.Limits.{payload_limit}
+use Rattle.mote_layout.specs.Blocks.{block_address, block_of, without, handed_over}
+use Rattle.mote_layout.specs.Parcels.{Payload}
 use Rattle.mote_layout.specs.Requests.{holds}
 use Rattle.domain_model.specs.declared.handler.Running.{Running}
 use Rattle.domain_model.specs.declared.fault.Rule.TheVariants as rule
@@ -9,9 +12,10 @@ use Rattle.domain_model.specs.declared.fault.Served.{Served}
 use Rattle.domain_model.specs.declared.fault.Served.TheVariants.{Back, Fault}
 use Rattle.domain_model.specs.declared.line.TraceLine.{TraceLine}
 use Rattle.domain_model.specs.declared.line.TraceLine.TheVariants as line
-use Rattle.domain_model.specs.State.{Message, Loaded, KernelState, register, pair, with_pair, with_processor}
-use Rattle.domain_model.specs.Units.{Service, Malloc, Free, ChangeOwn, PostShort, Say, Clock, MyId}
+use Rattle.domain_model.specs.State.{Message, Loaded, KernelState, register, pair, bytes_at, with_pair, with_processor}
+use Rattle.domain_model.specs.Units.{Service, Malloc, Free, ChangeOwn, PostShort, PostLong, Take, Say, Clock, Send, MyId}
 use Rattle.domain_model.specs.Modules.{id_at, is_loaded, module_named}
+use Rattle.domain_model.specs.Payloads.{holds_bytes}
 use Rattle.domain_model.specs.Given.{Given, given, with_given}
 
 -- The kernel after a call, the lines that it wrote, and how it came back.
@@ -90,6 +94,70 @@ post_to false m k = answered k 2
 abbrev pub post_short : KernelState → Running → KernelState
 post_short k run = post_to (is_loaded k.modules (message_of k run).to) (message_of k run) k
 
+-- The long message that the registers of a post ask for, without its payload: it has as many bytes as R21:R20 says.
+abbrev pub long_message_of : KernelState → Running → Message
+long_message_of k run = record (message_of k run) { byte = 0; word = 0; long = true; len = pair k.processor 20 }
+
+-- the message with its bytes in a block
+abbrev pub carrying : Message → ℕ → Message
+carrying m block = record m { load = Some (record { block = block; len = m.len }) }
+
+-- `post_long` answers as `post_short` does. Where it posts, the caller's block that begins at R19:R18 is the message's payload, and
+-- the kernel's; else it stays the caller's. A block that isn't the caller's or hasn't so many bytes is refused first.
+abbrev pub long_where : Bool → Message → ℕ → KernelState → KernelState
+long_where true m address k =
+    answered (record k {
+      blocks = handed_over (block_of address) kernel k.blocks;
+      queues = appended m.high (carrying m (block_of address)) k.queues;
+    }) 0
+long_where false m address k = answered k 1
+
+abbrev pub long_to : Bool → Message → ℕ → KernelState → KernelState
+long_to true m address k = long_where (nat_lt (length (list_of m.high k.queues)) queue_limit) m address k
+long_to false m address k = answered k 2
+
+abbrev pub long_held : Bool → Message → ℕ → KernelState → Serving
+long_held false m address k = not_owned address k
+long_held true m address k = comes_back (long_to (is_loaded k.modules m.to) m address k) []
+
+abbrev pub post_long : KernelState → Running → Serving
+post_long k run =
+    long_held (holds_bytes k.blocks run.domain (pair k.processor 18) (pair k.processor 20)) (long_message_of k run) (pair k.processor 18) k
+
+-- `take` gives the receiver of the message in hand its payload, where it has one that was not taken, and answers the address.
+-- The message has none any more. Else `take` answers 0.
+abbrev pub payload_taken : Option Payload → Message → Running → KernelState → KernelState
+payload_taken None m run k = answered k 0
+payload_taken (Some p) m run k =
+    answered (record k { blocks = handed_over p.block run.domain k.blocks; hand = Some (record m { load = None }) }) (block_address p.block)
+
+abbrev pub take_by : Bool → Message → Running → KernelState → KernelState
+take_by true m run k = payload_taken m.load m run k
+take_by false m run k = answered k 0
+
+abbrev pub take_hand : Option Message → Running → KernelState → KernelState
+take_hand None run k = answered k 0
+take_hand (Some m) run k = take_by (m.to == id_at k.modules run.domain) m run k
+
+abbrev pub take_payload : KernelState → Running → KernelState
+take_payload k run = take_hand k.hand run k
+
+-- `send` writes a packet's line and answers 0: for R25:R24, of the type in R22, with as many bytes as R21:R20 says of the caller's
+-- block that begins at R19:R18. The block stays. It answers 1 where they are too many for a packet. A block that isn't the
+-- caller's or hasn't so many bytes is refused first.
+abbrev pub send_within : Bool → KernelState → Running → Serving
+send_within true k run =
+    comes_back (answered k 0) (line.Send k.clock (id_at k.modules run.domain) (pair k.processor 24) (register k.processor 22)
+    (bytes_at k.processor (pair k.processor 18) (pair k.processor 20)) ∷ [])
+send_within false k run = comes_back (answered k 1) []
+
+abbrev pub send_held : Bool → KernelState → Running → Serving
+send_held false k run = not_owned (pair k.processor 18) k
+send_held true k run = send_within (nat_le (pair k.processor 20) payload_limit) k run
+
+abbrev pub send : KernelState → Running → Serving
+send k run = send_held (holds_bytes k.blocks run.domain (pair k.processor 18) (pair k.processor 20)) k run
+
 -- `say` writes the byte in R24 and answers 0.
 abbrev pub say : KernelState → Running → Serving
 say k run = comes_back (answered k 0) (line.Say k.clock (id_at k.modules run.domain) (register k.processor 24) ∷ [])
@@ -108,7 +176,10 @@ serve (Some Malloc) run k = comes_back (malloc k run) []
 serve (Some Free) run k = free k run
 serve (Some ChangeOwn) run k = change_own k run
 serve (Some PostShort) run k = comes_back (post_short k run) []
+serve (Some PostLong) run k = post_long k run
+serve (Some Take) run k = comes_back (take_payload k run) []
 serve (Some Say) run k = say k run
 serve (Some Clock) run k = comes_back (clock k) []
+serve (Some Send) run k = send k run
 serve (Some MyId) run k = comes_back (my_id k run) []
 serve None run k = comes_back k []

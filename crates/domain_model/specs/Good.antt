@@ -2,19 +2,21 @@
 use Rattle.std.specs.Prelude.{◌⊎◌, ℕ, ◌≡◌, ◌≢◌, ◌+◌, ◌^◌, ◌<◌, ◌≤◌, List, [], ◌∷◌, length, Option, Some, None, Ok, Err, true, ⊤}
 use Rattle.std.specs.List.{AllByRecursion}
 use Rattle.mote_base.specs.Messages.{Lists, AreWithinLimit}
-use Rattle.mote_layout.specs.Memory.{register_count, ram_bytes, domain_count, stack_top, floor}
-use Rattle.mote_layout.specs.Limits.{unit_limit, handler_limit}
+use Rattle.mote_layout.specs.Memory.{kernel, register_count, ram_bytes, domain_count, stack_top, floor}
+use Rattle.mote_layout.specs.Limits.{payload_limit, unit_limit, handler_limit}
 use Rattle.mote_layout.specs.Blocks.{AreBlocks}
 use Rattle.mote_layout.specs.declared.segment.Segment.{Segment}
 use Rattle.unit_code.specs.declared.unit.Unit.{Unit}
 use Rattle.module_image.specs.declared.face.Face.{Face}
 use Rattle.module_image.specs.Contents.{FaceRules}
 use Rattle.domain_model.specs.declared.handler.Running.{Running}
-use Rattle.domain_model.specs.declared.event.LoaderEvent.{LoaderEvent}
+use Rattle.domain_model.specs.declared.event.Packet.{Packet}
 use Rattle.domain_model.specs.Bytes.{AreBytes}
 use Rattle.domain_model.specs.Prepared.{Module, Prep}
 use Rattle.domain_model.specs.Units.{AreProper}
 use Rattle.domain_model.specs.State.{Processor, Message, radio, payload_address, Loaded, KernelState, RunnerState, State}
+use Rattle.domain_model.specs.Events.{packet_times, event_times}
+use Rattle.domain_model.specs.Payloads.{HoldsPayloads, IsAsLong}
 use Rattle.domain_model.specs.Modules.{id_at, in_use, is_loaded}
 use Rattle.domain_model.specs.Act.{bank}
 
@@ -49,9 +51,12 @@ abbrev pub AreDistinct : List Loaded → Type 0
 AreDistinct [] = ⊤
 AreDistinct (m ∷ ms) = AllByRecursion (IsApart m) ms × AreDistinct ms
 
--- Each block's owner is the domain of a loaded module. (There are no payloads yet, so the kernel has none.)
+-- Each block's owner is the kernel or the domain of a loaded module.
+abbrev pub IsOwned : List Loaded → Segment → Type 0
+IsOwned modules b = (b.owner ≡ kernel) ⊎ (in_use modules b.owner ≡ true)
+
 abbrev pub AreOwned : List Loaded → List Segment → Type 0
-AreOwned modules blocks = AllByRecursion (λ b. in_use modules b.owner ≡ true) blocks
+AreOwned modules blocks = AllByRecursion (IsOwned modules) blocks
 
 -- In a handler a loaded domain runs, its next unit is one of its units, and the stack pointer lies between the floor and the
 -- base. Base and bound are the stack's top, for no unit that is built calls.
@@ -73,12 +78,12 @@ pub record IsFramed (m : Message) : Type 0 where
   pub len : m.len < 2 ^ 16
   pub address : payload_address m.load < 2 ^ 16
 
--- A message's receiver is loaded, and its sender is the kernel, the radio or loaded. None carries a payload yet.
+-- A message's receiver is loaded, its sender is the kernel, the radio or loaded, and a payload has as many bytes as it says.
 pub record IsKnown (modules : List Loaded) (m : Message) : Type 0 where
   pub receiver : is_loaded modules m.to ≡ true
   pub sender : ((m.from ≡ 0) ⊎ (m.from ≡ radio)) ⊎ (is_loaded modules m.from ≡ true)
   pub framed : IsFramed m
-  pub load : m.load ≡ None
+  pub load : IsAsLong m.len m.load
 
 abbrev pub GoodHand : List Loaded → Option Message → Type 0
 GoodHand modules None = ⊥
@@ -109,6 +114,7 @@ pub record GoodMachine (k : KernelState) (r : RunnerState) : Type 0 where
   pub blocks : AreBlocks k.blocks
   pub owners : AreOwned k.modules k.blocks
   pub queues : GoodQueues k.modules k.queues
+  pub payloads : HoldsPayloads k.blocks k.queues k.hand
   pub handler : GoodHandler k r k.running
 
 -- A module that can be loaded.
@@ -122,18 +128,30 @@ IsGoodImage None = ⊤
 IsGoodImage (Some (Err refusal)) = ⊤
 IsGoodImage (Some (Ok m)) = GoodImage m
 
--- The times of events that are still to come: from a moment on they don't fall, and each is one that a script can name.
-abbrev pub AreTimesFrom : ℕ → List LoaderEvent → Type 0
+-- The times of what is still to come: from a moment on they don't fall, and each is one that a script can name.
+abbrev pub AreTimesFrom : ℕ → List ℕ → Type 0
 AreTimesFrom before [] = ⊤
-AreTimesFrom before (e ∷ es) = (before ≤ e.time) × (e.time < 2 ^ 32) × AreTimesFrom e.time es
+AreTimesFrom before (time ∷ times) = (before ≤ time) × (time < 2 ^ 32) × AreTimesFrom time times
 
-abbrev pub AreTimes : List LoaderEvent → Type 0
-AreTimes events = AreTimesFrom 0 events
+abbrev pub AreTimes : List ℕ → Type 0
+AreTimes times = AreTimesFrom 0 times
+
+-- The numbers of a packet are bytes, and it is no longer than a packet may be.
+pub record IsPacket (p : Packet) : Type 0 where
+  pub to : p.to < 256
+  pub sort : p.sort < 256
+  pub bytes : AreBytes p.bytes
+  pub short : length p.bytes ≤ payload_limit
+
+abbrev pub ArePackets : List Packet → Type 0
+ArePackets packets = AllByRecursion IsPacket packets
 
 pub record Good (s : State) : Type 0 where
   pub machine : GoodMachine s.kernel s.runner
   pub images : AllByRecursion IsGoodImage s.images
-  pub times : AreTimes s.events
+  pub packets : ArePackets s.packets
+  pub packet_times : AreTimes (packet_times s.packets)
+  pub times : AreTimes (event_times s.events)
   pub clock : s.kernel.clock < 2 ^ 32 + s.total
   pub total : s.total ≤ s.unit_limit
   pub units : s.unit_limit ≤ unit_limit

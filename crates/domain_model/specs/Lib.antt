@@ -13,7 +13,10 @@ pub mod Free
 pub mod Turn
 pub mod Good
 pub mod Laws
-pub mod Loader
+pub mod Events
+pub mod Payloads
+pub mod Radio
+pub mod Dump
 pub mod Remaining
 pub mod Facts
 pub mod Runners

@@ -1,6 +1,6 @@
 -- The state of the machine.
-use Rattle.std.specs.Prelude.{ℕ, List, [], ◌∷◌, ◌++◌, Option, Some, None, replicate, drop, map, if◌then◌else◌}
-use Rattle.mote_layout.specs.Memory.{register_count, message_frame, message_frame_bytes, domain_count, stack_top}
+use Rattle.std.specs.Prelude.{ℕ, List, [], ◌-◌, ◌∷◌, ◌++◌, Option, Some, None, replicate, take, drop, map, if◌then◌else◌}
+use Rattle.mote_layout.specs.Memory.{ram_start, register_count, message_frame, message_frame_bytes, domain_count, stack_top}
 use Rattle.mote_layout.specs.Blocks.{block_address}
 use Rattle.mote_layout.specs.Parcels.{Payload}
 use Rattle.mote_base.specs.declared.message.Msg.{Msg}
@@ -9,14 +9,15 @@ use Rattle.mote_layout.specs.declared.segment.Segment.{Segment}
 use Rattle.avr_machine.specs.Processor.{Processor as CountingProcessor, register as register_of, pair as pair_of, low, high, no_processor as no_counting_processor}
 use Rattle.avr_machine.specs.Write.{Write, set_register, set_pair, set_byte, written}
 unfoldable pub use Rattle.avr_machine.specs.Processor.{no_memory}
-pub use Rattle.avr_machine.specs.Bytes.{with_zeros}
+pub use Rattle.avr_machine.specs.Bytes.{with_bytes, with_zeros}
 use Rattle.unit_code.specs.declared.unit.Unit.{Unit}
 use Rattle.module_image.specs.declared.face.Face.{Face}
 use Rattle.module_image.specs.Links.{Seat}
 use Rattle.domain_model.specs.declared.handler.Running.{Running}
 use Rattle.domain_model.specs.declared.event.LoaderEvent.{LoaderEvent}
+use Rattle.domain_model.specs.declared.event.Packet.{Packet}
 use Rattle.domain_model.specs.declared.script.Event.{Event}
-use Rattle.domain_model.specs.Loader.{loader_events}
+use Rattle.domain_model.specs.Events.{loader_events, packets_in}
 use Rattle.domain_model.specs.declared.event.Turned.{Turned}
 use Rattle.domain_model.specs.declared.event.Turned.TheVariants.{More}
 use Rattle.domain_model.specs.Prepared.{Prep, prepared}
@@ -34,7 +35,7 @@ pub record Processor : Type 0 where
 abbrev pub radio : ℕ
 radio = 255
 
--- A message. Its payload, if it has one, is a block of the kernel's.
+-- A message. Its payload, if it has one, is a block of the kernel's. A message in hand has none any more once its payload was taken.
 abbrev pub Message : Type 0
 Message = Msg Payload
 
@@ -67,12 +68,13 @@ pub record RunnerState : Type 0 where
   pub banks : List (List Unit)
   pub unit : ℕ
 
--- The whole: kernel and runner; the images by number, None for one that is not built; the events of the
--- script still to come; how many units a run and a handler may have, and have had; how the run stands.
+-- The whole: kernel and runner; the images by number, None for one that is not built; the script's packets still to come, and
+-- its events for the loader; how many units a run and a handler may have, and have had; how the run stands.
 pub record State : Type 0 where
   pub kernel : KernelState
   pub runner : RunnerState
   pub images : List (Option Prep)
+  pub packets : List Packet
   pub events : List LoaderEvent
   pub unit_limit : ℕ
   pub handler_limit : ℕ
@@ -86,6 +88,10 @@ pub record Input : Type 0 where
   pub events : List Event
   pub unit_limit : ℕ
   pub handler_limit : ℕ
+
+-- the bytes of the memory from an address on, so many
+abbrev pub bytes_at : Processor → ℕ → ℕ → List ℕ
+bytes_at p address n = take n (drop (address - ram_start) p.memory)
 
 -- the processor with its program counter at an address, as it runs instructions
 abbrev pub at_counter : Processor → ℕ → CountingProcessor
@@ -171,12 +177,13 @@ abbrev pub no_runner : RunnerState
 no_runner = record { banks = replicate domain_count []; unit = 0 }
 
 -- The state in which a run of prepared images begins.
-abbrev pub begins : List (Option Prep) → List LoaderEvent → ℕ → ℕ → State
-begins images events unit_limit handler_limit =
+abbrev pub begins : List (Option Prep) → List Packet → List LoaderEvent → ℕ → ℕ → State
+begins images packets events unit_limit handler_limit =
     record {
       kernel = no_kernel;
       runner = no_runner;
       images = images;
+      packets = packets;
       events = events;
       unit_limit = unit_limit;
       handler_limit = handler_limit;
@@ -187,4 +194,4 @@ begins images events unit_limit handler_limit =
 
 -- The state in which a run begins.
 abbrev pub start : Input → State
-start i = begins (map prepared i.images) (loader_events i.events) i.unit_limit i.handler_limit
+start i = begins (map prepared i.images) (packets_in i.events) (loader_events i.events) i.unit_limit i.handler_limit

@@ -1,15 +1,16 @@
 -- Turns and runs.
 use Rattle.std.specs.Prelude.{◌≡◌, ◌≢◌, ℕ, ◌+◌, ◌==◌, ◌||◌, nat_le, not, List, [], ◌∷◌, ◌++◌, drop, Bool, true, false, Option, Some, None, Ok, Err, slice_get, slice_set, ⊤}
 use Rattle.mote_layout.specs.Memory.{heap_end, stack_top}
-use Rattle.mote_base.specs.Messages.{front, without_front, unnamed}
+use Rattle.mote_base.specs.Messages.{front, in_order, without_front, unnamed}
 use Rattle.mote_layout.specs.Blocks.{without_owner}
 use Rattle.unit_code.specs.declared.unit.Unit.{Unit}
 use Rattle.domain_model.specs.declared.handler.Running.{Running}
 use Rattle.domain_model.specs.declared.event.LoaderEvent.{LoaderEvent}
+use Rattle.domain_model.specs.declared.event.Packet.{Packet}
 use Rattle.domain_model.specs.declared.event.LoaderOrder.{LoaderOrder}
 use Rattle.domain_model.specs.declared.event.LoaderOrder.TheVariants as what
 use Rattle.domain_model.specs.declared.event.Choice.{Choice}
-use Rattle.domain_model.specs.declared.event.Choice.TheVariants.{Stays, Comes, Dispatches, Jumps, Idles, Budgets, Watches, Acts}
+use Rattle.domain_model.specs.declared.event.Choice.TheVariants.{Stays, Hears, Comes, Dispatches, Jumps, Idles, Budgets, Watches, Acts}
 use Rattle.domain_model.specs.declared.event.Turned.{Turned}
 use Rattle.domain_model.specs.declared.event.Turned.TheVariants.{More, EndIdle, EndBudget}
 use Rattle.domain_model.specs.declared.fault.FaultNote.{FaultNote}
@@ -21,6 +22,10 @@ use Rattle.domain_model.specs.declared.line.TraceLine.TheVariants as line
 use Rattle.domain_model.specs.declared.refusal.Refusal.{Refusal}
 use Rattle.domain_model.specs.Prepared.{Module, Prep, refusal_number, refusal_kind, refusal_value, refusal_detail}
 use Rattle.domain_model.specs.State.{Message, Loaded, KernelState, RunnerState, State, Input, start, dispatched}
+use Rattle.domain_model.specs.Events.{packet_times, is_due, next_time}
+use Rattle.domain_model.specs.Payloads.{load_of, without_load, without_payloads}
+use Rattle.domain_model.specs.Radio.{Hearing, heard}
+use Rattle.domain_model.specs.Dump.{dumped}
 use Rattle.domain_model.specs.Modules.{id_at, is_loaded, module_named, free_domain, without_domain}
 use Rattle.domain_model.specs.Given.{Given, given, nothing_given, with_given}
 use Rattle.domain_model.specs.Act.{Acted}
@@ -49,16 +54,16 @@ begun k domain state m =
       hand = Some m;
     }
 
--- the handler is over
+-- The handler is over. The payload in hand that was not taken is free.
 abbrev pub handler_ended : KernelState → KernelState
-handler_ended k = record k { running = None; hand = None }
+handler_ended k = record k { running = None; hand = None; blocks = without_load (load_of k.hand) k.blocks }
 
--- The module with an id in a domain is out: its row, every block of its domain, and every message from or to it.
+-- The module with an id in a domain is out: its row, every block of its domain, and every message from or to it with its payload.
 abbrev pub purged : KernelState → ℕ → ℕ → KernelState
 purged k id domain =
     record k {
       modules = without_domain domain k.modules;
-      blocks = without_owner domain k.blocks;
+      blocks = without_owner domain (without_payloads id (in_order k.queues) k.blocks);
       queues = unnamed id k.queues;
     }
 
@@ -81,20 +86,23 @@ entered r unit = record r { unit = unit }
 
 -- Which turn comes next: the first of these that applies.
 
--- Outside a handler: a due event; else the first message; else the clock jumps to the next event; else the run
--- ends.
-abbrev pub choose_message : Option Message → List LoaderEvent → Choice
-choose_message (Some m) es = Dispatches
-choose_message None (e ∷ es) = Jumps e.time
-choose_message None [] = Idles
+-- Outside a handler: an event that is due for the loader; else the first message; else the clock jumps to the next line of the
+-- script; else the run ends.
+abbrev pub choose_time : Option ℕ → Choice
+choose_time (Some time) = Jumps time
+choose_time None = Idles
 
-abbrev pub choose_event : Bool → LoaderEvent → Option Message → Choice
-choose_event true e waiting = Comes e
-choose_event false e waiting = choose_message waiting (e ∷ [])
+abbrev pub choose_message : Option Message → State → Choice
+choose_message (Some m) s = Dispatches
+choose_message None s = choose_time (next_time s.packets s.events)
 
-abbrev pub choose_outside : List LoaderEvent → ℕ → Option Message → Choice
-choose_outside [] now waiting = choose_message waiting []
-choose_outside (e ∷ es) now waiting = choose_event (nat_le e.time now) e waiting
+abbrev pub choose_event : Bool → LoaderEvent → State → Choice
+choose_event true e s = Comes e
+choose_event false e s = choose_message (front s.kernel.queues) s
+
+abbrev pub choose_outside : List LoaderEvent → State → Choice
+choose_outside [] s = choose_message (front s.kernel.queues) s
+choose_outside (e ∷ es) s = choose_event (nat_le e.time s.kernel.clock) e s
 
 -- In a handler: the run ends where its budget is spent; else the watchdog strikes where the handler's is;
 -- else a unit runs.
@@ -107,11 +115,16 @@ choose_inside true run s = Budgets
 choose_inside false run s = choose_unit (s.spent == s.handler_limit) run
 
 abbrev pub choose_running : Option Running → State → Choice
-choose_running None s = choose_outside s.events s.kernel.clock (front s.kernel.queues)
+choose_running None s = choose_outside s.events s
 choose_running (Some run) s = choose_inside (s.total == s.unit_limit) run s
 
+-- A packet that is due comes before all else, in a handler too.
+abbrev pub choose_packet : Bool → State → Choice
+choose_packet true s = Hears
+choose_packet false s = choose_running s.kernel.running s
+
 abbrev pub choose_ended : Turned → State → Choice
-choose_ended More s = choose_running s.kernel.running s
+choose_ended More s = choose_packet (is_due (packet_times s.packets) s.kernel.clock) s
 choose_ended EndIdle s = Stays
 choose_ended EndBudget s = Stays
 
@@ -194,9 +207,19 @@ unload_module (Some m) id k r =
       lines = line.Run k.clock id 1 0 ∷ [];
     }
 
+-- A dump prints the state and changes nothing.
 abbrev pub came : List (Option Prep) → LoaderOrder → KernelState → RunnerState → Moved
 came images (what.Load n) k r = load_image (slice_get images n) n k r
 came images (what.Unload id) k r = unload_module (module_named k.modules id) id k r
+came images what.Dump k r = record { kernel = k; runner = r; lines = dumped k }
+
+-- The first packet comes. The runner stays where it is.
+abbrev pub moved_by : Hearing → RunnerState → Moved
+moved_by h r = record { kernel = h.kernel; runner = r; lines = h.lines }
+
+abbrev pub hear : Option Packet → KernelState → RunnerState → Moved
+hear None k r = record { kernel = k; runner = r; lines = [] }
+hear (Some p) k r = moved_by (heard p k) r
 
 -- The first message is dispatched to its receiver. In a state that a run reaches it is loaded.
 abbrev pub deliver : Option Loaded → Message → KernelState → RunnerState → Moved
@@ -271,6 +294,7 @@ watchdog s = record { rule = rule.Watchdog; address = s.kernel.processor.sp }
 -- What each turn makes of the state. The last argument is what the unit does, where one runs.
 abbrev pub made : Choice → State → Acted → Made
 made Stays s got = record { state = s; lines = [] }
+made Hears s got = made_of (record s { packets = drop 1 s.packets }) (hear (slice_get s.packets 0) s.kernel s.runner)
 made (Comes e) s got =
     made_of (record s { events = drop 1 s.events; spent = 0 }) (came s.images e.what s.kernel s.runner)
 made Dispatches s got =
@@ -285,6 +309,7 @@ made (Acts run) s got = counted s (settled got.ending run got.kernel got.runner 
 -- an entry of the kernel, and leaves the kernel's bytes.
 abbrev pub May : Choice → State → Acted → Type 0
 May Stays s got = ⊤
+May Hears s got = ⊤
 May (Comes e) s got = ⊤
 May Dispatches s got = ⊤
 May (Jumps now) s got = ⊤
@@ -295,6 +320,7 @@ May (Acts run) s got = UnitStep s.kernel s.runner got
 
 abbrev pub Leaves : Choice → State → State → Type 0
 Leaves Stays want t = t ≡ want
+Leaves Hears want t = SameState is_kernel_byte want t
 Leaves (Comes e) want t = SameState is_kernel_byte want t
 Leaves Dispatches want t = SameState is_kernel_byte want t
 Leaves (Jumps now) want t = SameState is_kernel_byte want t

@@ -1,20 +1,23 @@
 -- The units that are built: all but the calls between domains and within one, and the checked loads of sealed images;
--- and of the kernel calls those without payloads and timers.
+-- and of the kernel calls all but those of timers.
 use Rattle.std.specs.Prelude.{◌≡◌, ◌==◌, ℕ, if◌then◌else◌, List, Bool, true, false, Option, Some, None, is_some}
 use Rattle.std.specs.List.{list_all}
 use Rattle.unit_code.specs.declared.unit.Unit.{Unit}
 use Rattle.unit_code.specs.declared.unit.Unit.TheVariants.{Load, LocalCall, KernelCall, SlotCall, SlotIndirect}
 use Rattle.unit_code.specs.Proper.{IsOfKind, IsProper}
 
--- The kernel calls that are built: give a block, free one, hand one to another module, post a short message, say a byte,
--- tell the clock, tell the module's own id.
+-- The kernel calls that are built: give a block, free one, hand one to another module, post a short message, post a block, take
+-- the block that came, say a byte, tell the clock, send bytes, tell the module's own id.
 pub data Service : Type 0 where
   Malloc : Service
   Free : Service
   ChangeOwn : Service
   PostShort : Service
+  PostLong : Service
+  Take : Service
   Say : Service
   Clock : Service
+  Send : Service
   MyId : Service
 
 -- by the call's number
@@ -24,7 +27,10 @@ service_of n =
     else (if n == 1 then Some Free
     else (if n == 2 then Some ChangeOwn
     else (if n == 3 then Some PostShort
-    else (if n == 8 then Some Say else (if n == 9 then Some Clock else (if n == 11 then Some MyId else None))))))
+    else (if n == 4 then Some PostLong
+    else (if n == 5 then Some Take
+    else (if n == 8 then Some Say
+    else (if n == 9 then Some Clock else (if n == 10 then Some Send else (if n == 11 then Some MyId else None)))))))))
 
 -- The unit can run. Code with another unit is not built yet: no run has it.
 abbrev pub is_built : Unit → Bool

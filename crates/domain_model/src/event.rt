@@ -1,6 +1,7 @@
 //! What the loader is asked to do, and the turns of a run.
 
 use crate::handler::Running;
+use crate::payload::PayloadBytes;
 
 /// What an event of the script asks of the loader.
 #[derive(Clone, Copy, Debug, PartialEq, Eq)]
@@ -9,6 +10,8 @@ pub enum LoaderOrder {
     Load(u8),
     /// Unload the module with this id.
     Unload(u8),
+    /// Print the state.
+    Dump,
 }
 
 /// An event of the script that is for the loader.
@@ -17,6 +20,18 @@ pub struct LoaderEvent {
     /// The clock from which on the event is due, in units.
     pub time: u64,
     pub what: LoaderOrder,
+}
+
+/// A packet of the script that comes by radio.
+#[derive(Drop)]
+pub struct Packet {
+    /// The clock from which on it is due, in units. It is then an interrupt, also in the middle of a handler.
+    pub time: u64,
+    /// The id of the module that it is for.
+    pub to: u8,
+    /// The type of the message that it becomes.
+    pub sort: u8,
+    pub bytes: PayloadBytes,
 }
 
 /// How a run stands after a turn.
@@ -35,11 +50,13 @@ pub enum Turned {
 pub enum Choice {
     /// The run has ended, and stays so.
     Stays,
-    /// An event of the script is due.
+    /// A packet is due: the first comes, in a handler too.
+    Hears,
+    /// An event of the script is due for the loader.
     Comes(LoaderEvent),
     /// A message waits: the first is dispatched.
     Dispatches,
-    /// Nothing is due and no message waits: the clock becomes this time.
+    /// Nothing is due and no message waits: the clock becomes this time, the next in the script.
     Jumps(u64),
     /// Nothing is due, waits or is to come: the run ends.
     Idles,

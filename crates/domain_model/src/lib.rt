@@ -6,9 +6,10 @@
 //!
 //! - `State`: the processor, the kernel's lists, the units of the loaded modules, and what is still to come.
 //! - `Units`: the units that can run. `Prepared`: what the file of an image comes to. `Files`: what such a file is, in
-//!   the words of images and of code. `Loader`: which events of a script are for the loader. `Command`: what the words of the command line mean.
-//! - `Modules`: the loaded modules by domain and id. `Given`: the blocks that a request is given. `Calls`: what each kernel
-//!   call does. `Others`: what it leaves to others.
+//!   the words of images and of code. `Events`: the lines of a script that come by radio and those for the loader. `Command`: what the words of the command line mean.
+//! - `Modules`: the loaded modules by domain and id. `Given`: the blocks that a request is given. `Payloads`: the blocks that
+//!   messages carry. `Calls`: what each kernel call does. `Others`: what it leaves to others. `Radio`: what a packet does that
+//!   comes. `Dump`: what is printed of the state.
 //! - `Act`: what one unit does, its instruction by the effect that `avr_machine` gives it. `Free`: the bytes whose values a
 //!   run leaves open. `Runners`: what a unit does where a runner keeps the units in its own way.
 //! - `Turn`: which turn comes next, what it does, and the runs of turns.
@@ -30,12 +31,13 @@ mod refusal;
 mod request;
 mod script;
 
-pub use event::{Choice, LoaderEvent, LoaderOrder, Turned};
+pub use event::{Choice, LoaderEvent, LoaderOrder, Packet, Turned};
 pub use fault::{FaultNote, Rule, Served, UnitEnd};
 pub use handler::Running;
 pub use laws::{
     every_good_state_runs_to_an_end, every_turn_is_lawful, files_are_as_prepared,
-    kernel_calls_leave_others, turns_come_as_the_state_says, units_act_as_instructions,
+    kernel_calls_leave_others, no_block_is_lost, turns_come_as_the_state_says,
+    units_act_as_instructions,
 };
 pub use line::{TraceLine, Why};
 pub use lines::Lines;

@@ -1,7 +1,7 @@
 //! The events of a script, line by line.
 ghost use Rattle.std.specs.Prelude.{◌≡◌, ◌⊎◌, ◌<◌, ◌+◌, None, Some, IfErr, IfOk, length};
-ghost use Rattle.domain_model.specs.Good.{AreTimes};
-ghost use Rattle.domain_model.specs.Loader.{loader_events};
+ghost use Rattle.domain_model.specs.Good.{ArePackets, AreTimes};
+ghost use Rattle.domain_model.specs.Events.{event_times, loader_events, packet_times, packets_in};
 ghost use Rattle.event_script.specs.Admitted.{admitted};
 ghost use Rattle.event_script.specs.Refusals.{asks_beyond, refusal_of, events_of};
 
@@ -55,7 +55,9 @@ fn admit(
 pub fn parse_script(alloc: Global, text: &[u8], images: usize) -> Result<Script, ScriptError>
     ensures ok { IfOk result (λ script.
         (refusal_of images text.now ≡ None) × (script.events.items ≡ events_of text.now)) }
-    ensures times { IfOk result (λ script. AreTimes (loader_events script.events.items)) }
+    ensures times { IfOk result (λ script. AreTimes (event_times (loader_events script.events.items))) }
+    ensures packet_times { IfOk result (λ script. AreTimes (packet_times (packets_in script.events.items))) }
+    ensures packets { IfOk result (λ script. ArePackets (packets_in script.events.items)) }
     ensures err { IfErr result (λ e. (e ≡ ScriptError.NoMemory) ⊎ (refusal_of images text.now ≡ Some e)) }
 {
     let mut events = Vec::new(alloc);

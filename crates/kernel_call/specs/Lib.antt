@@ -3,3 +3,4 @@ pub mod Sound
 pub mod Admission
 pub mod Lending
 pub mod Values
+pub mod Mail

@@ -47,7 +47,7 @@ fn put_frame(cpu: &mut Cpu, message: &Msg<Parcel>)
 }
 
 /// The address of a message's payload, or 0.
-fn address_of(message: &Msg<Parcel>) -> u16
+pub fn address_of(message: &Msg<Parcel>) -> u16
     ensures { result ≡ payload_address message.now.load }
 {
     match &message.load {

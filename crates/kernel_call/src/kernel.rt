@@ -11,12 +11,11 @@ ghost use Rattle.kernel_call.specs.Rows.{row_of};
 ghost use Rattle.kernel_call.specs.Sound.{last_moment};
 
 use crate::loaded::ModuleRow;
+use crate::mail::Mail;
 use crate::modules::Modules;
 use avr_machine::Cpu;
 use domain_model::Running;
-use mote_base::{Msg, NoMemory};
-use msg_queue::Queues;
-use sos_heap::{Heap, Parcel};
+use mote_base::NoMemory;
 use std::alloc::Global;
 use std::marker::Model;
 use store_check::{Window, check_store};
@@ -26,11 +25,9 @@ use store_check::{Window, check_store};
 pub struct Kernel {
     pub(crate) clock: u64,
     pub(crate) cpu: Cpu,
-    pub(crate) heap: Heap,
+    pub(crate) mail: Mail,
     pub(crate) modules: Modules,
-    pub(crate) queues: Queues<Parcel>,
     pub(crate) running: Option<Running>,
-    pub(crate) hand: Option<Msg<Parcel>>,
     pub(crate) ending: Option<u8>,
 }
 
@@ -43,15 +40,15 @@ impl Model for Kernel {
     ghost view = { λ k. record {
       clock = k.clock;
       processor = without_counter k.cpu;
-      blocks = k.heap;
+      blocks = k.mail.blocks;
       modules = k.modules;
-      queues = k.queues;
+      queues = k.mail.queues;
       running = k.running;
-      hand = k.hand;
+      hand = k.mail.hand;
       ending = k.ending;
     } };
 
-    ghost invariant = { λ k. IsSound k.clock k.running k.hand k.ending k.modules k.queues };
+    ghost invariant = { λ k. IsSound k.clock k.running k.mail.hand k.ending k.modules k.mail.queues };
 }
 
 impl Kernel {
@@ -62,11 +59,9 @@ impl Kernel {
         Ok(Kernel {
             clock: 0,
             cpu: Cpu::new(alloc)?,
-            heap: Heap::new(alloc)?,
+            mail: Mail::new(alloc)?,
             modules: Modules::new(alloc)?,
-            queues: Queues::new(alloc)?,
             running: None,
-            hand: None,
             ending: None,
         })
     }
@@ -120,7 +115,7 @@ impl Kernel {
     pub fn has_message(&self) -> bool
         ensures { result ≡ is_some (front self.now.queues) }
     {
-        self.queues.count(true) > 0 || self.queues.count(false) > 0
+        self.mail.count(true) > 0 || self.mail.count(false) > 0
     }
 
     /// The stack of the running domain.
@@ -155,7 +150,7 @@ impl Kernel {
     {
         let run = self.run();
         let window = self.window_of(&run);
-        check_store(self.heap.map(), &window, run.domain, a)
+        check_store(self.mail.map(), &window, run.domain, a)
     }
 
     fn window_of(&self, run: &Running) -> Window

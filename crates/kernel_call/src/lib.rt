@@ -10,10 +10,13 @@
 #![tactic(auto)]
 
 mod admitted;
+mod dump;
 mod frame;
 mod kernel;
 mod loaded;
+mod mail;
 mod modules;
+mod radio;
 mod runner;
 mod serve;
 mod turns;

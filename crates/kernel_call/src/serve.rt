@@ -1,9 +1,14 @@
 //! The calls by which a running module asks the kernel for something.
-ghost use Rattle.std.specs.Prelude.{◌≡◌, ◌<◌, ◌++◌, IfSome, IfNone, IsSome, Some, None, length};
-ghost use Rattle.mote_layout.specs.Limits.{turn_lines};
+ghost use Rattle.std.specs.Prelude.{◌≡◌, ◌<◌, ◌≤◌, ◌+◌, ◌++◌, ◌==◌, IfSome, IfNone, IsSome, Some, None, true, false, length};
+ghost use Rattle.std.specs.Option.{option_map_or};
+ghost use Rattle.mote_layout.specs.Memory.{heap_start, heap_end};
+ghost use Rattle.mote_layout.specs.Limits.{payload_limit, turn_lines};
 ghost use Rattle.mote_layout.specs.Memory.{domain_count};
 ghost use Rattle.domain_model.specs.Units.{service_of};
-ghost use Rattle.domain_model.specs.Calls.{answered, change_own, free, malloc, message_of, my_id, clock, post_short, say, serve};
+ghost use Rattle.domain_model.specs.Calls.{answered, change_own, free, malloc, message_of, long_message_of, long_to, my_id, clock, post_long, post_short, say, send, serve, take_payload};
+ghost use Rattle.domain_model.specs.Modules.{id_at, is_loaded};
+ghost use Rattle.domain_model.specs.Payloads.{holds_bytes};
+ghost use Rattle.domain_model.specs.State.{bytes_at, without_counter};
 ghost use Rattle.domain_model.specs.Given.{given, with_given};
 ghost use Rattle.mote_layout.specs.Blocks.{block_of, handed_over};
 ghost use Rattle.mote_layout.specs.Requests.{Holds};
@@ -11,9 +16,10 @@ ghost use Rattle.kernel_call.specs.Values.{given_as};
 
 use crate::frame::{ANSWER_PAIR, answer};
 use crate::kernel::Kernel;
-use domain_model::{FaultNote, Lines, Rule, Running, Served, TraceLine};
+use avr_machine::Cpu;
+use domain_model::{FaultNote, Lines, PayloadBytes, Rule, Running, Served, TraceLine};
 use mote_base::Msg;
-use mote_layout::BLOCK_BYTES;
+use mote_layout::{BLOCK_BYTES, PAYLOAD_BYTES};
 use sos_heap::{NotOwner, Parcel};
 
 /// The kernel calls by number.
@@ -25,14 +31,20 @@ const CHANGE_OWN: u8 = 2;
 
 const POST_SHORT: u8 = 3;
 
+const POST_LONG: u8 = 4;
+
+const TAKE: u8 = 5;
+
 const SAY: u8 = 8;
 
 const CLOCK: u8 = 9;
 
+const SEND: u8 = 10;
+
 const MY_ID: u8 = 11;
 
-/// The registers of the arguments: the byte of `say` and the receiver of a post; the new owner of a block and the type of a
-/// message; the byte of a message; the lower one of its word; its flags.
+/// The registers of the arguments: the byte of `say`, the receiver of a post and the lower one of a packet's; the new owner of a
+/// block and the type of a message or a packet; the byte of a short message; the lower one of its word; the flags of a message.
 const FIRST: u8 = 24;
 
 const SECOND: u8 = 22;
@@ -43,6 +55,11 @@ const WORD: u8 = 18;
 
 const FLAGS: u8 = 16;
 
+/// The lower registers of the pairs that hold how many bytes of a block are posted or sent, and where it begins.
+const LENGTH: u8 = 20;
+
+const BLOCK: u8 = 18;
+
 /// What a post answers.
 const POSTED: u16 = 0;
 
@@ -52,6 +69,11 @@ const NOT_LOADED: u16 = 2;
 
 /// What `change_own` answers where the new owner isn't loaded.
 const NO_OWNER: u16 = 1;
+
+/// What `send` answers: the packet is sent, or the bytes are too many for one.
+const SENT: u16 = 0;
+
+const TOO_LONG: u16 = 1;
 
 /// The clock's answer is the clock modulo this.
 const CLOCK_MODULUS: u64 = 65536;
@@ -85,8 +107,11 @@ impl Kernel {
             FREE => return self.free(run),
             CHANGE_OWN => return self.change_own(run),
             POST_SHORT => self.post_short(run),
+            POST_LONG => return self.post_long(run),
+            TAKE => self.take(run),
             SAY => self.say(run, lines),
             CLOCK => self.tell_clock(),
+            SEND => return self.send(run, lines),
             MY_ID => self.tell_id(run),
             _ => unreachable!(),
         }
@@ -110,7 +135,7 @@ impl Kernel {
         ensures given { IfSome result (λ address. given self.old domain size ≡ Some (given_as self.new address)) }
         ensures rest { IfSome result (λ address. self.new ≡ with_given self.old (given_as self.new address)) }
     {
-        let address = self.heap.give(domain, size)?;
+        let address = self.mail.give(domain, size)?;
         let bytes = BLOCK_BYTES * size.div_ceil(BLOCK_BYTES);
         self.cpu.clear(address, bytes);
         Some(address)
@@ -122,7 +147,7 @@ impl Kernel {
         ensures served { result ≡ (free self.old run.now).served }
     {
         let address = self.cpu.pair(ANSWER_PAIR);
-        match self.heap.release(run.domain, address) {
+        match self.mail.release(run.domain, address) {
             Ok(()) => {
                 answer(&mut self.cpu, 0);
                 Served::Back
@@ -137,7 +162,7 @@ impl Kernel {
         ensures served { result ≡ (change_own self.old run.now).served }
     {
         let address = self.cpu.pair(ANSWER_PAIR);
-        if !self.heap.holds(run.domain, address, 0) {
+        if !self.mail.holds(run.domain, address, 0) {
             return refused(address);
         }
         match self.modules.named(self.cpu.register(SECOND)) {
@@ -157,7 +182,7 @@ impl Kernel {
         requires held { Holds self.old.blocks domain address }
         ensures { self.new ≡ record self.old { blocks = handed_over (block_of address) to self.old.blocks } }
     {
-        if self.heap.change(domain, address, to).is_err() {
+        if self.mail.change(domain, address, to).is_err() {
             unreachable!()
         }
     }
@@ -169,9 +194,10 @@ impl Kernel {
         if !self.modules.is_loaded(message.to) {
             return answer(&mut self.cpu, NOT_LOADED);
         }
-        match self.queues.post(message) {
-            Ok(()) => answer(&mut self.cpu, POSTED),
-            Err(_) => answer(&mut self.cpu, FULL),
+        if self.mail.post(message) {
+            answer(&mut self.cpu, POSTED);
+        } else {
+            answer(&mut self.cpu, FULL);
         }
     }
 
@@ -190,6 +216,97 @@ impl Kernel {
             load: None,
             high: self.cpu.register(FLAGS) % 2 == 1,
         }
+    }
+
+    fn post_long(&mut self, run: &Running) -> Served
+        requires { run.now.domain < domain_count }
+        ensures kernel { self.new ≡ (post_long self.old run.now).kernel }
+        ensures served { result ≡ (post_long self.old run.now).served }
+    {
+        let address = self.cpu.pair(BLOCK);
+        let message = self.long_message_of(run);
+        if !self.mail.holds(run.domain, address, message.len) {
+            return refused(address);
+        }
+        self.send_block(run, message, address);
+        Served::Back
+    }
+
+    /// Posts a message with the running module's block that begins at an address.
+    fn send_block(&mut self, run: &Running, message: Msg<Parcel>, address: u16)
+        requires domain { run.now.domain < domain_count }
+        requires held { holds_bytes self.old.blocks run.now.domain address message.len ≡ true }
+        ensures { self.new ≡ long_to (is_loaded self.old.modules message.to) message address self.old }
+    {
+        if !self.modules.is_loaded(message.to) {
+            return answer(&mut self.cpu, NOT_LOADED);
+        }
+        if self.mail.send(message, run.domain, address) {
+            answer(&mut self.cpu, POSTED);
+        } else {
+            answer(&mut self.cpu, FULL);
+        }
+    }
+
+    /// The long message that the registers of a post ask for, without its payload.
+    fn long_message_of(&self, run: &Running) -> Msg<Parcel>
+        ensures { result ≡ long_message_of self.now run.now }
+    {
+        Msg {
+            byte: 0,
+            word: 0,
+            long: true,
+            len: self.cpu.pair(LENGTH),
+            ..self.message_of(run)
+        }
+    }
+
+    fn take(&mut self, run: &Running)
+        requires { run.now.domain < domain_count }
+        ensures { self.new ≡ take_payload self.old run.now }
+    {
+        let address = if self.is_receiver(run) {
+            self.mail.take(run.domain)
+        } else {
+            0
+        };
+        answer(&mut self.cpu, address);
+    }
+
+    /// Whether the message in hand is the running module's.
+    fn is_receiver(&self, run: &Running) -> bool
+        ensures { result ≡ option_map_or (λ m. m.to == id_at self.now.modules run.now.domain) self.now.hand false }
+    {
+        match self.mail.hand() {
+            Some(message) => message.to == self.modules.id_at(run.domain),
+            None => false,
+        }
+    }
+
+    fn send(&mut self, run: &Running, lines: &mut Lines) -> Served
+        requires { length lines.old < turn_lines }
+        ensures kernel { self.new ≡ (send self.old run.now).kernel }
+        ensures lines { lines.new ≡ lines.old ++ (send self.old run.now).lines }
+        ensures served { result ≡ (send self.old run.now).served }
+    {
+        let address = self.cpu.pair(BLOCK);
+        let len = self.cpu.pair(LENGTH);
+        if !self.mail.holds(run.domain, address, len) {
+            return refused(address);
+        }
+        if usize::from(len) > PAYLOAD_BYTES {
+            answer(&mut self.cpu, TOO_LONG);
+            return Served::Back;
+        }
+        lines.add(TraceLine::Send {
+            time: self.clock,
+            id: self.modules.id_at(run.domain),
+            dest: self.cpu.pair(FIRST),
+            sort: self.cpu.register(SECOND),
+            bytes: bytes_at(&self.cpu, address, len),
+        });
+        answer(&mut self.cpu, SENT);
+        Served::Back
     }
 
     fn say(&mut self, run: &Running, lines: &mut Lines)
@@ -227,4 +344,18 @@ fn refused(address: u16) -> Served
         rule: Rule::Owner,
         address,
     })
+}
+
+/// Bytes of the heap, from an address on.
+fn bytes_at(cpu: &Cpu, address: u16, len: u16) -> PayloadBytes
+    requires few { len ≤ payload_limit }
+    requires start { heap_start ≤ address }
+    requires end { address + len ≤ heap_end + 1 }
+    ensures { result ≡ bytes_at (without_counter cpu.now) address len }
+{
+    let mut bytes = PayloadBytes::new();
+    for place in 0..len {
+        bytes.push(cpu.rd(address + place));
+    }
+    bytes
 }

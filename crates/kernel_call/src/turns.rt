@@ -1,17 +1,17 @@
 //! What turns do to the kernel.
 ghost use Rattle.std.specs.Prelude.{◌≡◌, ◌↔◌, ◌<◌, ◌≤◌, ◌++◌, ◌∷◌, [], ℕ, IfSome, IfNone, IsSome, IsSomeAnd, Some, None, length, option_map, true, false};
-ghost use Rattle.mote_base.specs.Messages.{front, without_front, unnamed};
+ghost use Rattle.mote_base.specs.Messages.{front, without_front};
 ghost use Rattle.mote_layout.specs.Limits.{provided_limit, turn_lines};
 ghost use Rattle.mote_layout.specs.Memory.{domain_count};
 ghost use Rattle.module_image.specs.Contents.{FaceRules};
-ghost use Rattle.domain_model.specs.State.{RunnerState};
+ghost use Rattle.domain_model.specs.State.{RunnerState, dispatched, with_processor};
 ghost use Rattle.domain_model.specs.Modules.{id_at, in_use, is_loaded, module_at, module_named};
 ghost use Rattle.domain_model.specs.Turn.{at_clock, begun, dispatch, final_to, handler_ended, init_to, kernel_message, purged, state_block, with_none_ending};
 ghost use Rattle.domain_model.specs.Given.{with_given};
 ghost use Rattle.kernel_call.specs.Admission.{admission, newcomer};
 ghost use Rattle.kernel_call.specs.Rows.{row_of};
 ghost use Rattle.kernel_call.specs.Sound.{last_moment};
-ghost use Rattle.kernel_call.specs.Values.{given_as};
+ghost use Rattle.kernel_call.specs.Values.{first_running, given_as};
 
 use crate::admitted::Admitted;
 use crate::frame::dispatch;
@@ -22,7 +22,6 @@ use domain_model::{Lines, Running, TraceLine};
 use module_image::Face;
 use mote_base::Msg;
 use mote_layout::{PROVIDED, STACK_TOP};
-use msg_queue::Queues;
 use sos_heap::Parcel;
 
 /// The types of the first and of the last message of a module, and the kernel's number as their sender.
@@ -79,7 +78,7 @@ impl Kernel {
         Admitted::Placed(domain)
     }
 
-    /// Takes the module in a domain out, with its blocks and every message from or to it.
+    /// Takes the module in a domain out, with its blocks and every message from or to it. The payloads of these messages are freed.
     #[tactic(auto, using(crate::proofs::Receivers::received_rest, crate::proofs::Seats::in_use_within))]
     pub fn purge(&mut self, d: u8)
         requires outside { self.old.running ≡ None }
@@ -89,8 +88,7 @@ impl Kernel {
         self.modules.known();
         let id = self.modules.id_at(d);
         self.modules.remove(d);
-        self.heap.purge(d);
-        remove_named(&mut self.queues, id);
+        self.mail.clear(id, d);
     }
 
     /// Starts the handler of the module in a domain with its first message.
@@ -104,7 +102,8 @@ impl Kernel {
             (λ m. lines.new ≡ lines.old ++ TraceLine.Run self.old.clock m.face.id 0 0 ∷ []) }
     {
         let row = self.row(d);
-        self.start(&row, kernel_message(row.id, INIT), lines);
+        self.hold(&row, INIT);
+        self.start(&row, lines);
     }
 
     /// Starts the handler of the module in a domain with its last message: it is the one that ends.
@@ -118,7 +117,8 @@ impl Kernel {
             (λ m. lines.new ≡ lines.old ++ TraceLine.Run self.old.clock m.face.id 1 0 ∷ []) }
     {
         let row = self.row(d);
-        self.start(&row, kernel_message(row.id, FINAL), lines);
+        self.hold(&row, FINAL);
+        self.start(&row, lines);
         self.ending = Some(row.id);
     }
 
@@ -133,15 +133,12 @@ impl Kernel {
         ensures receiver { IfSome result (λ d. IfSome (front self.old.queues)
             (λ m. module_at self.new.modules d ≡ module_named self.old.modules m.to)) }
     {
-        let message = self.take_front()?;
-        let Some(row) = self.modules.named(message.to) else {
-            unreachable!()
-        };
-        self.start(&row, message, lines);
+        let row = self.take_front()?;
+        self.start(&row, lines);
         Some(row.domain)
     }
 
-    /// The handler is over. Answers the id of the module that ends.
+    /// The handler is over. A payload that was not taken is freed. Answers the id of the module that ends.
     pub fn end_handler(&mut self) -> Option<u8>
         requires handler { IsSome self.old.running }
         ensures ending { result ≡ self.old.ending }
@@ -149,8 +146,8 @@ impl Kernel {
     {
         let ending = self.ending;
         self.running = None;
-        self.hand = None;
         self.ending = None;
+        self.mail.lay_down();
         ending
     }
 
@@ -176,35 +173,58 @@ impl Kernel {
         }
     }
 
-    /// Starts the handler of a module with a message.
-    fn start(&mut self, row: &ModuleRow, message: Msg<Parcel>, lines: &mut Lines)
+    /// A module runs with a message of the kernel's own in hand, from before its first unit.
+    fn hold(&mut self, row: &ModuleRow, sort: u8)
+        requires outside { self.old.running ≡ None }
         requires domain { row.now.domain < domain_count }
-        requires room { length lines.old < turn_lines }
-        ensures kernel { self.new ≡ begun self.old row.now.domain row.now.state message }
-        ensures lines { lines.new ≡ lines.old ++ TraceLine.Run self.old.clock row.now.id message.sort message.from ∷ [] }
+        ensures { self.new ≡ record self.old { running = Some (first_running row.now.domain); hand = Some (kernel_message row.now.id sort) } }
     {
+        self.running = Some(first_running(row.domain));
+        self.mail.hold(kernel_message(row.id, sort));
+    }
+
+    /// The receiver of the first message that waits runs with it in hand, from before its first unit.
+    fn take_front(&mut self) -> Option<ModuleRow>
+        requires outside { self.old.running ≡ None }
+        ensures none { (result ≡ None) ↔ (front self.old.queues ≡ None) }
+        ensures same { result ≡ None → self.new ≡ self.old }
+        ensures receiver { IfSome (front self.old.queues) (λ m. result ≡ option_map row_of (module_named self.old.modules m.to)) }
+        ensures there { IfSome result (λ row. IfSome (front self.old.queues)
+            (λ m. module_at self.old.modules row.domain ≡ module_named self.old.modules m.to)) }
+        ensures within { IfSome result (λ row. row.domain < domain_count) }
+        ensures kernel { IfSome result (λ row. self.new ≡ record self.old {
+          queues = without_front self.old.queues;
+          running = Some (first_running row.domain);
+          hand = front self.old.queues;
+        }) }
+    {
+        let to = self.mail.next()?;
+        let Some(row) = self.modules.named(to) else {
+            unreachable!()
+        };
+        self.running = Some(first_running(row.domain));
+        Some(row)
+    }
+
+    /// Starts the handler of the module that runs with the message in hand.
+    fn start(&mut self, row: &ModuleRow, lines: &mut Lines)
+        requires hand { IsSome self.old.hand }
+        requires room { length lines.old < turn_lines }
+        ensures kernel { IfSome self.old.hand
+            (λ m. self.new ≡ with_processor self.old (dispatched self.old.processor row.now.state m)) }
+        ensures lines { IfSome self.old.hand
+            (λ m. lines.new ≡ lines.old ++ TraceLine.Run self.old.clock row.now.id m.sort m.from ∷ []) }
+    {
+        let Some(message) = self.mail.hand() else {
+            unreachable!()
+        };
         lines.add(TraceLine::Run {
             time: self.clock,
             id: row.id,
             sort: message.sort,
             from: message.from,
         });
-        dispatch(&mut self.cpu, row.state, &message);
-        self.running = Some(Running {
-            domain: row.domain,
-            base: STACK_TOP,
-            bound: STACK_TOP,
-        });
-        self.hand = Some(message);
-    }
-
-    /// Takes the first message that waits.
-    fn take_front(&mut self) -> Option<Msg<Parcel>>
-        ensures front { result ≡ front self.old.queues }
-        ensures rest { self.new ≡ record self.old { queues = without_front self.old.queues } }
-        ensures loaded { IfSome result (λ m. is_loaded self.old.modules m.to ≡ true) }
-    {
-        self.queues.next()
+        dispatch(&mut self.cpu, row.state, message);
     }
 
     /// Gives a domain a cleared block for so many bytes of state, and tells its address. A module that asks for no byte has none
@@ -220,6 +240,17 @@ impl Kernel {
             return Some(0);
         }
         self.give(domain, size)
+    }
+}
+
+/// What runs in a domain before its first unit.
+fn first_running(domain: u8) -> Running
+    ensures { result ≡ first_running domain }
+{
+    Running {
+        domain,
+        base: STACK_TOP,
+        bound: STACK_TOP,
     }
 }
 
@@ -248,16 +279,4 @@ fn numbers(units: &[u16]) -> ArrayVec<u16, PROVIDED>
     let mut numbers = ArrayVec::new();
     numbers.try_extend_from_slice(units).unwrap();
     numbers
-}
-
-/// Takes every message from or to a module out.
-fn remove_named(queues: &mut Queues<Parcel>, id: u8)
-    ensures { queues.new ≡ unnamed id queues.old }
-{
-    'named: loop {
-        match queues.take_named(id) {
-            Some(_) => {}
-            None => return,
-        }
-    }
 }

@@ -1,15 +1,30 @@
--- The loader's events among those that were looked at.
+-- The packets and the loader's events among the lines of a script that were looked at.
 use Rattle.std.specs.Prelude.{◌≡◌, ◌++◌, List, [], ◌∷◌, Option, Some, None}
-use Rattle.std.proofs.Common.{refl, ap, ◌∙◌}
+use Rattle.std.proofs.Common.{refl, ap, ◌∙◌, length, arith}
 use Rattle.domain_model.specs.declared.event.LoaderEvent.{LoaderEvent}
+use Rattle.domain_model.specs.declared.event.Packet.{Packet}
 use Rattle.domain_model.specs.declared.script.Event.{Event}
-use Rattle.domain_model.specs.Loader.{loader_event, loader_events, onto_events}
+use Rattle.domain_model.specs.Events.{loader_event, loader_events, onto_events, onto_packets, packet_of, packets_in}
 
 onto_more : (o : Option LoaderEvent) (es more : List LoaderEvent) → onto_events o (es ++ more) ≡ onto_events o es ++ more
 onto_more None es more = refl
 onto_more (Some e) es more = refl
 
--- one event more
-pub one_more : (events : List Event) (e : Event) → loader_events (events ++ (e ∷ [])) ≡ loader_events events ++ onto_events (loader_event e) []
+onto_more_packets : (o : Option Packet) (ps more : List Packet) → onto_packets o (ps ++ more) ≡ onto_packets o ps ++ more
+onto_more_packets None ps more = refl
+onto_more_packets (Some p) ps more = refl
+
+-- one line more
+pub one_more : (lines : List Event) (e : Event) → loader_events (lines ++ (e ∷ [])) ≡ loader_events lines ++ onto_events (loader_event e) []
 one_more [] e = refl
 one_more (x ∷ xs) e = ap (onto_events (loader_event x)) (one_more xs e) ∙ onto_more (loader_event x) (loader_events xs) (onto_events (loader_event e) [])
+
+pub one_more_packet : (lines : List Event) (e : Event) → packets_in (lines ++ (e ∷ [])) ≡ packets_in lines ++ onto_packets (packet_of e) []
+one_more_packet [] e = refl
+one_more_packet (x ∷ xs) e =
+    ap (onto_packets (packet_of x)) (one_more_packet xs e) ∙ onto_more_packets (packet_of x) (packets_in xs) (onto_packets (packet_of e) [])
+
+-- nothing is left where nothing is to be left
+pub nothing_left : (lines : List Event) → length lines ≡ 0 → lines ≡ []
+nothing_left [] h = refl
+nothing_left (e ∷ es) h = absurd (omega arith)

@@ -7,14 +7,21 @@ use Rattle.domain_model.specs.Runners.{ActedBy, seen_by}
 use Rattle.domain_model.specs.Turn.{Made, made}
 use Rattle.domain_model.specs.declared.event.Choice.{Choice}
 use Rattle.domain_model.specs.declared.event.LoaderEvent.{LoaderEvent}
+use Rattle.domain_model.specs.declared.event.Packet.{Packet}
 use Rattle.domain_model.specs.declared.event.Turned.{Turned}
 use Rattle.mote_core.specs.declared.limits.Limits.{Limits}
+
+-- What is to come of a script, in its order: the packets, and the events that are for the loader.
+pub record Plan : Type 0 where
+  pub packets : List Packet
+  pub events : List LoaderEvent
 
 -- What a mote with a runner of the type R holds.
 pub record MoteValue (R : Type 0) : Type 0 where
   pub kernel : KernelState
   pub runner : R
   pub images : List (Option Prep)
+  pub packets : List Packet
   pub events : List LoaderEvent
   pub limits : Limits
   pub total : ℕ
@@ -28,6 +35,7 @@ state_of part m =
       kernel = m.kernel;
       runner = part m.runner;
       images = m.images;
+      packets = m.packets;
       events = m.events;
       unit_limit = m.limits.units;
       handler_limit = m.limits.handler;

@@ -26,9 +26,15 @@ const CHANGE_OWN: u8 = 2;
 
 const POST_SHORT: u8 = 3;
 
+const POST_LONG: u8 = 4;
+
+const TAKE: u8 = 5;
+
 const SAY: u8 = 8;
 
 const CLOCK: u8 = 9;
+
+const SEND: u8 = 10;
 
 const MY_ID: u8 = 11;
 
@@ -231,6 +237,6 @@ fn is_served(number: u8) -> bool
 {
     matches!(
         number,
-        MALLOC | FREE | CHANGE_OWN | POST_SHORT | SAY | CLOCK | MY_ID
+        MALLOC | FREE | CHANGE_OWN | POST_SHORT | POST_LONG | TAKE | SAY | CLOCK | SEND | MY_ID
     )
 }

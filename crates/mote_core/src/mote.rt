@@ -4,13 +4,13 @@ ghost use Rattle.std.specs.List.{AllByRecursion};
 ghost use Rattle.mote_base.specs.Messages.{front};
 ghost use Rattle.mote_layout.specs.Limits.{unit_limit, handler_limit};
 ghost use Rattle.domain_model.specs.Free.{UnitStep};
-ghost use Rattle.domain_model.specs.Good.{Good, IsGoodImage, AreTimes};
+ghost use Rattle.domain_model.specs.Good.{Good, IsGoodImage, ArePackets, AreTimes};
 ghost use Rattle.domain_model.specs.Laws.{LawfulTurn};
-ghost use Rattle.domain_model.specs.Loader.{loader_events};
+ghost use Rattle.domain_model.specs.Events.{event_times, loader_events, packet_times, packets_in};
 ghost use Rattle.domain_model.specs.Remaining.{remaining};
 ghost use Rattle.domain_model.specs.Runners.{without_ran, without_ran_lines};
 ghost use Rattle.domain_model.specs.State.{begins, no_runner};
-ghost use Rattle.domain_model.specs.Turn.{May, choice, choose_inside, choose_outside};
+ghost use Rattle.domain_model.specs.Turn.{May, choice, choose_inside, choose_message, choose_outside, choose_running};
 ghost use Rattle.mote_core.specs.Value.{acted, made_by, state_of};
 
 use crate::agenda::Agenda;
@@ -47,7 +47,8 @@ impl<R: Runner> Model for Mote<R> {
       kernel = m.kernel;
       runner = m.runner;
       images = m.images.items;
-      events = m.agenda;
+      packets = m.agenda.packets;
+      events = m.agenda.events;
       limits = m.limits;
       total = m.total;
       spent = m.spent;
@@ -58,7 +59,8 @@ impl<R: Runner> Model for Mote<R> {
       kernel = m.kernel;
       runner = m.runner;
       images = m.images.items;
-      events = m.agenda;
+      packets = m.agenda.packets;
+      events = m.agenda.events;
       limits = m.limits;
       total = m.total;
       spent = m.spent;
@@ -76,17 +78,19 @@ impl<R: Runner> Mote<R> {
         runner: R,
     ) -> Result<Mote<R>, NoMemory>
         requires images { AllByRecursion IsGoodImage images.items }
-        requires times { AreTimes (loader_events script.events.items) }
+        requires packets { ArePackets (packets_in script.events.items) }
+        requires packet_times { AreTimes (packet_times (packets_in script.events.items)) }
+        requires times { AreTimes (event_times (loader_events script.events.items)) }
         requires units { limits.units ≤ unit_limit }
         requires least { 1 ≤ limits.handler }
         requires greatest { limits.handler ≤ handler_limit }
         requires runner { R.Runner.part runner ≡ no_runner }
         ensures begins { IfOk result (λ m. state_of R.Runner.part m ≡
-            begins images.items (loader_events script.events.items) limits.units limits.handler) }
+            begins images.items (packets_in script.events.items) (loader_events script.events.items) limits.units limits.handler) }
         ensures good { IfOk result (λ m. Good (state_of R.Runner.part m)) }
     {
         let kernel = Kernel::new(alloc)?;
-        let agenda = Agenda::new(alloc, &script)?;
+        let agenda = Agenda::new(alloc, script)?;
         Ok(Mote {
             kernel,
             runner,
@@ -136,6 +140,16 @@ impl<R: Runner> Mote<R> {
             Turned::EndIdle => return Choice::Stays,
             Turned::EndBudget => return Choice::Stays,
         }
+        if self.agenda.is_packet_due(self.kernel.clock()) {
+            return Choice::Hears;
+        }
+        self.choose_running()
+    }
+
+    // Where no packet is due.
+    fn choose_running(&self) -> Choice
+        ensures { result ≡ choose_running self.now.kernel.running (state_of R.Runner.part self.now) }
+    {
         match self.kernel.handler() {
             Some(run) => self.choose_inside(run),
             None => self.choose_outside(),
@@ -155,26 +169,26 @@ impl<R: Runner> Mote<R> {
     }
 
     fn choose_outside(&self) -> Choice
-        ensures { result ≡ choose_outside self.now.events self.now.kernel.clock (front self.now.kernel.queues) }
+        ensures { result ≡ choose_outside self.now.events (state_of R.Runner.part self.now) }
     {
-        let waits = self.kernel.has_message();
-        match self.agenda.first() {
-            Some(event) => {
-                if event.time <= self.kernel.clock() {
-                    Choice::Comes(event)
-                } else if waits {
-                    Choice::Dispatches
-                } else {
-                    Choice::Jumps(event.time)
-                }
+        if let Some(event) = self.agenda.event() {
+            if event.time <= self.kernel.clock() {
+                return Choice::Comes(event);
             }
-            None => {
-                if waits {
-                    Choice::Dispatches
-                } else {
-                    Choice::Idles
-                }
-            }
+        }
+        self.choose_message()
+    }
+
+    // Where nothing is due.
+    fn choose_message(&self) -> Choice
+        ensures { result ≡ choose_message (front self.now.kernel.queues) (state_of R.Runner.part self.now) }
+    {
+        if self.kernel.has_message() {
+            return Choice::Dispatches;
+        }
+        match self.agenda.next_time() {
+            Some(time) => Choice::Jumps(time),
+            None => Choice::Idles,
         }
     }
 
@@ -189,6 +203,7 @@ impl<R: Runner> Mote<R> {
     {
         match next {
             Choice::Stays => {}
+            Choice::Hears => self.hear(lines),
             Choice::Comes(event) => self.come(&event, lines),
             Choice::Dispatches => self.dispatch(lines),
             Choice::Jumps(now) => self.jump(now),
@@ -199,6 +214,21 @@ impl<R: Runner> Mote<R> {
         }
     }
 
+    fn hear(&mut self, lines: &mut Lines)
+        requires empty { lines.old ≡ [] }
+        requires chosen { choice (state_of R.Runner.part self.old) ≡ Choice.Hears }
+        ensures state { state_of R.Runner.part self.new ≡
+            (made_by R.Runner.part R.Runner.acts Choice.Hears self.old).state }
+        ensures lines { lines.new ≡ (made_by R.Runner.part R.Runner.acts Choice.Hears self.old).lines }
+    {
+        let Some(packet) = self.agenda.packet() else {
+            unreachable!()
+        };
+        self.kernel
+            .radio(packet.to, packet.sort, packet.bytes.as_slice(), lines);
+        self.agenda.pass_packet();
+    }
+
     fn come(&mut self, event: &LoaderEvent, lines: &mut Lines)
         requires empty { lines.old ≡ [] }
         requires chosen { choice (state_of R.Runner.part self.old) ≡ Choice.Comes event.now }
@@ -206,7 +236,7 @@ impl<R: Runner> Mote<R> {
             (made_by R.Runner.part R.Runner.acts (Choice.Comes event.now) self.old).state }
         ensures lines { lines.new ≡ (made_by R.Runner.part R.Runner.acts (Choice.Comes event.now) self.old).lines }
     {
-        self.agenda.pass();
+        self.agenda.pass_event();
         self.spent = 0;
         come(
             &self.images,

@@ -65,6 +65,7 @@ pub fn come<R: Runner>(
             }
         }
         LoaderOrder::Unload(id) => unload(id, k, r, lines),
+        LoaderOrder::Dump => k.dump(lines),
     }
 }
 

@@ -1,6 +1,6 @@
 use Rattle.std.proofs.Common.{◌≡◌, ◌<◌, length, sym, arith, inr}
 use Rattle.std.proofs.lemmas.Bool.Decides.{nat_tests}
-use Rattle.event_script.proofs.Times.{script_times}
+use Rattle.event_script.proofs.Times.{MayRun, script_runs}
 use Rattle.event_script.proofs.Steps.{at_end, so_far-start, so_far-blank, so_far-event, refused-unended, refused-line, refused-event}
 use Rattle.event_script.proofs.script.parse_script.Goals as goal
 
@@ -31,4 +31,16 @@ pub returns-clause-times : goal.returns-clause-times
 returns-clause-times c =
     let none : length c.loop-rest.rest.now ≡ 0 = grind (arith, nat_tests) in
     let read = at_end _ _ _ _ _ _ c.loop-rest.invariant none in
-    script_times c.args.images c.args.text.now c.loop-rest.events.items read.0 read.1
+    (script_runs c.args.images c.args.text.now c.loop-rest.events.items read.0 read.1).times
+
+pub returns-clause-packet_times : goal.returns-clause-packet_times
+returns-clause-packet_times c =
+    let none : length c.loop-rest.rest.now ≡ 0 = grind (arith, nat_tests) in
+    let read = at_end _ _ _ _ _ _ c.loop-rest.invariant none in
+    (script_runs c.args.images c.args.text.now c.loop-rest.events.items read.0 read.1).packet_times
+
+pub returns-clause-packets : goal.returns-clause-packets
+returns-clause-packets c =
+    let none : length c.loop-rest.rest.now ≡ 0 = grind (arith, nat_tests) in
+    let read = at_end _ _ _ _ _ _ c.loop-rest.invariant none in
+    (script_runs c.args.images c.args.text.now c.loop-rest.events.items read.0 read.1).packets
