@@ -74,6 +74,11 @@ const STUMBLES: &[u8] = b"SOSM\x01\x02\0\0\0\0\0\0\0\x06\0 \x91\0\x01 0\x09\xF0\
 const POSTS_FIVE: &[u8] =
     b"SOSM\x01\x01\0\0\0\0\0\0\0\x0E\0\x15\xE0\x88\xE0\x90\xE0\x0E\x94\0\xF1\x9C\x01\x82\xE0i\xE0H\xE0\x0E\x94\x04\xF1\x1A\x95\xA1\xF7\x08\x95";
 
+/// Module 2 takes the payload of each message but INIT, and posts it to module 1: 9120 0100 3020 F409 9508 940E
+/// F105 019C E081 E068 E048 940E F104 9508.
+const RELAYS: &[u8] =
+    b"SOSM\x01\x02\0\0\0\0\0\0\0\x0E\0 \x91\0\x01 0\x09\xF4\x08\x95\x0E\x94\x05\xF1\x9C\x01\x81\xE0h\xE0H\xE0\x0E\x94\x04\xF1\x08\x95";
+
 /// Module 1 with a state of 97 bytes, which begins with 171, sends 96 of them to 4660, then 97, then none: 019C
 /// 01DC EA0B 930D E384 E192 E067 E640 940E F10A 940E F108 E641 940E F10A 940E F108 E040 940E F10A 9508.
 const SENDS: &[u8] =
@@ -167,6 +172,13 @@ const MIXED: &str =
     d block 0210 16 7\nd high 7 2 9 0200\nd low 255 2 7 0208\nd low 7 2 10 0000\nd end\n14 run 2 9 7\n\
     14 done 2\n15 run 2 7 255\n15 done 2\n16 run 2 10 7\n16 done 2\n20 dump\nd module 2 0 0000\n\
     d module 7 1 0200\nd block 0210 16 7\nd end\n20 end idle\n";
+
+/// A state block that comes back as a payload is no block of its module until that takes it.
+const RETURNED: &str =
+    "0 load 2 0 0000\n0 run 2 0 0\n3 done 2\n4 load 1 1 0200\n4 run 1 0 0\n9 done 1\n10 run 2 9 1\n\
+    19 done 2\n20 dump\nd module 2 0 0000\nd module 1 1 0200\nd block 0200 8 k\nd low 2 1 8 0200\n\
+    d end\n20 run 1 8 2\n24 fault owner 1 4 0200\n24 unload 1\n30 dump\nd module 2 0 0000\nd end\n\
+    30 end idle\n";
 
 /// A payload of length 0 has its block all the same.
 const NONE_MEASURED: &str =
@@ -285,6 +297,13 @@ const PARCELS: &[Row] = &[
         text: "0 load 2 0 0000\n0 run 2 0 0\n3 done 2\n4 load 1 1 0200\n4 run 1 0 0\n9 done 1\n10 run 2 9 1\n\
             13 fault store 2 3 0000\n13 unload 2\n20 dump\nd module 1 1 0200\nd end\n20 end idle\n",
     },
+    Row {
+        words: "run s a b",
+        script: "0 load 0\n0 load 1\n20 dump\n30 dump\n",
+        images: &[RELAYS, POSTS_STATE],
+        status: Status::Done,
+        text: RETURNED,
+    },
 ];
 
 /// What goes with a module that is unloaded, and what stays.
@@ -358,6 +377,21 @@ const PACKETS: &[Row] = &[
         images: &[SAYS],
         status: Status::Done,
         text: "0 drop module 1 7\n0 load 1 0 0000\n0 run 1 0 0\n1 say 1 65\n2 done 1\n3 end idle\n",
+    },
+    Row {
+        words: "run --units 5 s a",
+        script: "0 load 0\n5 radio 1 7 aabb\n",
+        images: &[COUNTS],
+        status: Status::Done,
+        text: "0 load 1 0 0000\n0 run 1 0 0\n5 queued 1 7\n5 end budget\n",
+    },
+    Row {
+        words: "run --handler 5 s a",
+        script: "0 load 0\n5 radio 1 7 aabb\n5 dump\n",
+        images: &[COUNTS],
+        status: Status::Done,
+        text: "0 load 1 0 0000\n0 run 1 0 0\n5 queued 1 7\n5 fault watchdog 1 1 10ff\n5 unload 1\n5 dump\nd end\n\
+            5 end idle\n",
     },
 ];
 
