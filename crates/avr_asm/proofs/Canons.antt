@@ -1,14 +1,14 @@
 -- The source of the image of a text is the canonical text of the text.
-use Rattle.std.specs.Prelude.{◌≡◌, ℕ, zero, suc, ◌+◌, ◌-◌, ◌*◌, ◌/◌, ◌%◌, ◌<◌, ◌≤◌, ◌==◌, ◌&&◌, ◌||◌, ◌⊎◌, nat_le, nat_lt, Bool, true, false, List, [], ◌∷◌, ◌++◌, length, Option, Some, None, Result, Ok, ⊤, IfSome, decimal, unwrap_or}
+use Rattle.std.specs.Prelude.{◌≡◌, ℕ, suc, ◌+◌, ◌-◌, ◌*◌, ◌/◌, ◌%◌, ◌<◌, ◌≤◌, ◌&&◌, ◌||◌, ◌⊎◌, nat_le, nat_lt, Bool, true, false, List, [], ◌∷◌, ◌++◌, length, Option, Some, None, Result, Ok, IfSome, decimal, unwrap_or}
 use Rattle.std.specs.Char.{digit_char}
 use Rattle.std.specs.List.{AllByRecursion}
-use Rattle.std.proofs.Common.{refl, sym, ◌∙◌, ap, ap₂, subst, cond, arith, append_assoc, inl, inr}
-use Rattle.std.proofs.lemmas.Bool.{and_parts, cases_lt, eqb-true, leb-true, leb-false, le-leb, lt-leb, ltb-true, le-ltb, lt-ltb, true≢false, cond-true, cond-false}
+use Rattle.std.proofs.Common.{refl, sym, ◌∙◌, ap, ap₂, subst, cond, arith, inl, inr}
+use Rattle.std.proofs.lemmas.Bool.{and_parts, cases_lt, leb-true, le-leb, lt-leb, le-ltb, lt-ltb, true≢false, cond-true, cond-false}
 use Rattle.mote_base.specs.Digits.{pairs_text}
 use Rattle.unit_code.specs.declared.unit.Unit.{Unit}
 use Rattle.unit_code.specs.declared.unit.Unit.TheVariants as unit
 use Rattle.unit_code.specs.Loads.{guarded, is_load, load_where}
-use Rattle.unit_code.specs.Units.{listed, refusal}
+use Rattle.unit_code.specs.Units.{listed}
 use Rattle.unit_code.specs.Listing.{Listing}
 use Rattle.module_image.specs.declared.error.ImageError.{ImageError}
 use Rattle.module_image.specs.Reading.{image_of}
@@ -22,10 +22,10 @@ use Rattle.module_image.specs.declared.face.Provided.{Provided}
 use Rattle.module_image.specs.declared.face.Subscribed.{Subscribed}
 use Rattle.module_image.specs.Contents.{Contents}
 use Rattle.avr_asm.specs.declared.stage.Step.{Step}
-use Rattle.avr_asm.specs.declared.stage.Step.TheVariants.{Opening, Named, Versioned, Sized, Handled, Closed, Providing, Subscribing, Constants, Body}
+use Rattle.avr_asm.specs.declared.stage.Step.TheVariants.{Opening, Named, Versioned, Sized, Handled, Providing, Subscribing, Constants, Body}
 use Rattle.avr_asm.specs.declared.stage.Stage.{Stage}
-use Rattle.avr_asm.specs.Text.{are_pairs, hex_value, is_blank, is_digit, is_goal, is_hex, is_none, lines_in, pair_bytes}
-use Rattle.avr_asm.specs.Line.{Line, Module, Version, State, Handler, Sealed, Provides, Subscribes, Const, Code, Label, Item, HasGoal, Rules, Says, ended}
+use Rattle.avr_asm.specs.Text.{are_pairs, hex_value, is_blank, is_digit, is_goal, is_hex, lines_in, pair_bytes}
+use Rattle.avr_asm.specs.Line.{Line, Module, Version, State, Handler, Sealed, Provides, Subscribes, Const, Code, Label, Item, Rules, ended}
 use Rattle.avr_asm.specs.Reading.{said}
 use Rattle.avr_asm.specs.Rows.{Row, behind, is_between, kept, place_after, rank, rows, rows_of, start, unit_after}
 use Rattle.avr_asm.specs.Refusals.{count, goal_of, is_mislabelled, is_sealed, leads_astray, led, refusal_of, refused, resolved, seals, some_goal}

@@ -1,26 +1,23 @@
 -- Rows that nothing is refused of are clear.
-use Rattle.std.specs.Prelude.{◌≡◌, ◌≢◌, ℕ, zero, suc, ◌+◌, ◌*◌, ◌^◌, ◌<◌, ◌≤◌, ◌==◌, ◌&&◌, ◌||◌, Bool, true, false, List, [], ◌∷◌, length, map, slice_index, sum_by, Option, Some, None, is_none, option_map, unwrap_or, ⊤, IfSome}
+use Rattle.std.specs.Prelude.{◌≡◌, ℕ, zero, suc, ◌+◌, ◌^◌, ◌<◌, ◌≤◌, Bool, true, false, List, [], ◌∷◌, length, slice_index, sum_by, Option, Some, None, option_map, unwrap_or, IfSome}
 use Rattle.std.specs.Str.{bytes_eq}
 use Rattle.std.specs.List.{AllByRecursion}
 use Rattle.std.proofs.Common.{refl, sym, ◌∙◌, ap, subst, cond, arith}
-use Rattle.std.proofs.lemmas.Bool.{and_parts, ltb-false, true≢false, cond-true, cond-false}
-use Rattle.std.proofs.lemmas.Slice.Eq.{bytes_eq-Decides}
+use Rattle.std.proofs.lemmas.Bool.{ltb-false, true≢false}
 use Rattle.mote_layout.specs.Memory.{bank_words}
-use Rattle.mote_layout.specs.Limits.{provided_limit, subscribed_limit}
 use Rattle.unit_code.specs.declared.unit.Unit.{Unit}
 use Rattle.unit_code.specs.Ends.{long_length}
-use Rattle.unit_code.specs.Loads.{guarded}
-use Rattle.unit_code.specs.Proper.{IsGuardedSo, IsOfKind, IsProper, LeadsBelow}
+use Rattle.unit_code.specs.Proper.{IsGuardedSo, IsOfKind, LeadsBelow}
 use Rattle.module_image.specs.declared.face.Provided.{Provided}
 use Rattle.avr_asm.specs.declared.error.AsmError.{AsmError}
 use Rattle.avr_asm.specs.declared.error.AsmError.TheVariants as error
 use Rattle.module_image.specs.Contents.{AreProvided}
-use Rattle.avr_asm.specs.Text.{is_name, lines_in}
+use Rattle.avr_asm.specs.Text.{is_name}
 use Rattle.avr_asm.specs.Line.{Line, Handler, Provides, Label, Item, Rules}
 use Rattle.avr_asm.specs.Rows.{Row, place_after, rows_of, start, unit_after, unit_words}
-use Rattle.avr_asm.specs.Refusals.{count, first, goal_of, is_labelled, is_misplaced, is_mislabelled, is_sealed, is_too_long, kinds_in, labelled, lacks_label, leads_astray, led, line_in, mislabelled, misled, misplaced, miscoded, place_in, refused, resolved, row_of, some_goal, stuck_in, too_early, unit_of, unless}
+use Rattle.avr_asm.specs.Refusals.{count, first, goal_of, is_labelled, is_mislabelled, is_sealed, is_too_long, kinds_in, labelled, lacks_label, leads_astray, led, line_in, mislabelled, misled, misplaced, miscoded, place_in, refused, row_of, some_goal, stuck_in, too_early, unit_of, unless}
 use Rattle.avr_asm.specs.Assembly.{handler_in, handler_of, number_of, numbers_of, onto_numbers, onto_places, onto_units, places_in, provided_of, units_in, word_of}
-use Rattle.avr_asm.specs.Encoding.{AreEncodable, AreLow, AreNear, IsClear, IsNear, own_units, places_from}
+use Rattle.avr_asm.specs.Encoding.{AreEncodable, AreLow, AreNear, IsClear, IsNear, places_from}
 use Rattle.avr_asm.proofs.Placed.{AreFew, Numbered, Ruled, few, head, numbered, pairs_are, placed, ruled}
 use Rattle.avr_asm.proofs.Counts.{counted, low_place, own_words, place_is, places_are}
 use Rattle.avr_asm.proofs.Sound.{GoOn, IsLed, IsLedRow, Known, are_alike, few_units, few_words, go_on, led_row, long_alike, low_at, low_places, own_kind, places_length, rising, unit_reaches, some_is}

@@ -1,6 +1,6 @@
 -- Counting from the front.
-use Rattle.std.specs.Prelude.{ℕ, suc, ◌+◌, ◌≡◌, Option, Some, None}
-use Rattle.std.proofs.Common.{refl, arith}
+use Rattle.std.specs.Prelude.{ℕ, ◌+◌, ◌≡◌, Option, Some, None}
+use Rattle.std.proofs.Common.{arith}
 use Rattle.avr_asm.specs.Line.{Line, Item}
 use Rattle.avr_asm.specs.Rows.{unit_after}
 

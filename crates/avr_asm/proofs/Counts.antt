@@ -1,14 +1,13 @@
 -- Units and places, row by row.
-use Rattle.std.specs.Prelude.{◌≡◌, ◌≢◌, ℕ, zero, suc, ◌+◌, ◌*◌, ◌^◌, ◌<◌, ◌≤◌, ◌==◌, ◌&&◌, Bool, true, false, List, [], ◌∷◌, length, slice_index, sum_by, Option, Some, None, ⊤, IfSome, nat_lt}
+use Rattle.std.specs.Prelude.{◌≡◌, ℕ, zero, suc, ◌+◌, ◌<◌, ◌==◌, ◌&&◌, Bool, true, false, List, [], ◌∷◌, length, slice_index, Option, Some, None}
 use Rattle.std.specs.List.{AllByRecursion}
-use Rattle.std.proofs.Common.{refl, sym, ◌∙◌, ap, subst, cond, arith, get_or}
-use Rattle.std.proofs.lemmas.Bool.{and_parts, eqb-true, eq-eqb, ne_eqb, cond-true, cond-false}
-use Rattle.std.proofs.lemmas.List.Sums.{sum_by-cons}
+use Rattle.std.proofs.Common.{refl, sym, ◌∙◌, ap, subst, cond, arith}
+use Rattle.std.proofs.lemmas.Bool.{eq-eqb, ne_eqb}
 use Rattle.unit_code.specs.declared.unit.Unit.{Unit}
-use Rattle.unit_code.specs.declared.unit.Unit.TheVariants.{Plain, Store, Load, Push, Pop, SpGroup, Reserve, Skip, Branch, Jump, LocalCall, KernelCall, SlotCall, SlotIndirect, Return}
+use Rattle.unit_code.specs.declared.unit.Unit.TheVariants.{Plain, Load, Branch, Jump, LocalCall}
 use Rattle.avr_isa.specs.declared.instruction.Instr.{Instr}
 use Rattle.unit_code.specs.Loads.{guarded, is_load, load_where}
-use Rattle.avr_asm.specs.Line.{Line, Module, Version, State, Handler, Sealed, Provides, Subscribes, Const, Code, Label, Item, Rules}
+use Rattle.avr_asm.specs.Line.{Line, Item}
 use Rattle.avr_asm.specs.Rows.{Row, place_after, unit_after, unit_words}
 use Rattle.avr_asm.specs.Refusals.{count, has_unit, led, place_in, row_of, some_goal}
 use Rattle.avr_asm.specs.Assembly.{aimed, onto_places, onto_units, places_in, units_in}

@@ -1,7 +1,7 @@
 -- What a cut of a text says of its parts.
-use Rattle.std.specs.Prelude.{ℕ, suc, ◌+◌, ◌<◌, ◌≡◌, ◌≢◌, ◌==◌, Bool, true, false, List, [], ◌∷◌, ◌++◌, length, take}
+use Rattle.std.specs.Prelude.{ℕ, suc, ◌+◌, ◌<◌, ◌≡◌, ◌==◌, true, false, List, [], ◌∷◌, ◌++◌, length, take}
 use Rattle.std.proofs.Common.{refl, sym, ◌∙◌, ap, cond, arith}
-use Rattle.std.proofs.lemmas.Bool.{ne_eqb, eq-eqb, true≢false, cond-true, cond-false}
+use Rattle.std.proofs.lemmas.Bool.{ne_eqb, true≢false, cond-false}
 use Rattle.std.proofs.Math.Seq.{take-append-add}
 use Rattle.avr_asm.specs.Cut.{Lacks, IsCut}
 use Rattle.avr_asm.specs.Text.{front, back, has, onto_first, lines_in}

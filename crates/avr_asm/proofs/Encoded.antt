@@ -1,14 +1,12 @@
 -- The words of instructions, one after the other.
-use Rattle.std.specs.Prelude.{◌≡◌, ◌≢◌, ℕ, zero, suc, ◌+◌, ◌-◌, ◌<◌, ◌≤◌, Bool, true, false, List, [], ◌∷◌, ◌++◌, length, drop, slice_index, sum_by, Option, Some, None, Result, Ok, Err, IfOk}
+use Rattle.std.specs.Prelude.{◌≡◌, ℕ, zero, suc, ◌+◌, ◌<◌, ◌≤◌, true, false, List, [], ◌∷◌, ◌++◌, length, drop, sum_by, Option, Some, None, Ok}
 use Rattle.std.proofs.Common.{refl, sym, ◌∙◌, ap, subst, arith, append_assoc, append-nil, get_or}
 use Rattle.std.proofs.Math.Seq.{drop-cons}
 use Rattle.std.proofs.lemmas.List.{length-append}
 use Rattle.std.proofs.lemmas.List.Sums.{sum_by-cons}
 use Rattle.avr_isa.specs.Decoded.{decoded}
-use Rattle.avr_isa.specs.Place.{second_word}
 use Rattle.avr_isa.specs.Table.{word_count}
 use Rattle.avr_isa.specs.declared.instruction.Instr.{Instr}
-use Rattle.avr_isa.specs.declared.instruction.Instr.TheVariants as instr
 use Rattle.avr_isa.proofs.TableLaws.{decoded_alone, decoded_count, decoded_length}
 use Rattle.unit_code.specs.declared.unit.Unit.{Unit}
 use Rattle.unit_code.specs.declared.unit.Unit.TheVariants as unit

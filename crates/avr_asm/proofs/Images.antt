@@ -1,15 +1,13 @@
 -- The image of a text that is not refused.
-use Rattle.std.specs.Prelude.{◌≡◌, ℕ, suc, ◌<◌, List, [], ◌∷◌, length, map, slice_index, Option, Some, None}
+use Rattle.std.specs.Prelude.{◌≡◌, ℕ, ◌<◌, List, [], ◌∷◌, length, map, slice_index, Option, Some, None}
 use Rattle.std.specs.List.{AllByRecursion}
-use Rattle.std.proofs.Common.{refl, sym, ◌∙◌, ap, subst, arith}
-use Rattle.unit_code.specs.declared.unit.Unit.{Unit}
+use Rattle.std.proofs.Common.{refl, sym, ◌∙◌, ap, subst}
 use Rattle.unit_code.specs.Spelled.{AreEntered, IsSpelled, Spell}
 use Rattle.module_image.specs.declared.face.Provided.{Provided}
-use Rattle.module_image.specs.Spelling.{Image}
 use Rattle.avr_asm.specs.Text.{lines_in}
 use Rattle.avr_asm.specs.Line.{Line, Provides}
 use Rattle.avr_asm.specs.Rows.{Row, rows_of}
-use Rattle.avr_asm.specs.Refusals.{is_sealed, refusal_of, refused}
+use Rattle.avr_asm.specs.Refusals.{is_sealed, refused}
 use Rattle.avr_asm.specs.Assembly.{IsAssembled, IsImageOf, contents_of, handler_of, listing_of, marks_of, number_of, numbers_of, onto_numbers, onto_provided, places_in, provided_of, word_of}
 use Rattle.avr_asm.specs.Encoding.{IsClear, IsWritten, own_units, places_from}
 use Rattle.avr_asm.proofs.Clear.{clear}

@@ -1,14 +1,13 @@
 -- The first row that a test finds has the least line.
-use Rattle.std.specs.Prelude.{ℕ, suc, ◌≡◌, ◌≤◌, ◌⊎◌, Bool, true, false, List, [], ◌∷◌, Option, Some, None, ⊤}
-use Rattle.std.proofs.Common.{refl, sym, ◌∙◌, ap, cond, arith, inl, inr}
+use Rattle.std.specs.Prelude.{ℕ, suc, ◌≡◌, ◌≤◌, Bool, true, false, List, [], ◌∷◌, Some, None, ⊤}
+use Rattle.std.proofs.Common.{refl, sym, ◌∙◌, cond, arith, inl, inr}
 use Rattle.std.proofs.lemmas.Bool.{true≢false}
 use Rattle.avr_asm.specs.declared.stage.Stage.{Stage}
-use Rattle.avr_asm.specs.Line.{Line}
 use Rattle.avr_asm.specs.Reading.{said}
 use Rattle.avr_asm.specs.Text.{is_blank}
 use Rattle.avr_asm.specs.Rows.{Row, behind, kept, place_after, rows, rows_of, start, unit_after}
 use Rattle.avr_asm.specs.Refusals.{first}
-use Rattle.avr_asm.specs.Laws.{EveryRow, IsLeast, RefusalsAreLeast, SomeRow}
+use Rattle.avr_asm.specs.Laws.{EveryRow, IsLeast, RefusalsAreLeast}
 use Rattle.avr_asm.proofs.Placed.{rowed}
 
 -- the lines rise from that one on

@@ -1,17 +1,14 @@
 -- The image of a text is read, and its code has units.
-use Rattle.std.specs.Prelude.{◌≡◌, ℕ, ◌≤◌, ◌<◌, List, None, Ok, length}
-use Rattle.std.proofs.Common.{refl, sym, ◌∙◌, ap, subst, arith}
-use Rattle.unit_code.specs.Listing.{Listing}
-use Rattle.unit_code.specs.Spelled.{IsSpelled}
+use Rattle.std.specs.Prelude.{◌≡◌, List, None}
+use Rattle.std.proofs.Common.{refl, arith}
 use Rattle.unit_code.specs.Units.{listed, refusal}
 use Rattle.unit_code.proofs.ReadAgain.{spelled_are_read}
 use Rattle.module_image.specs.Contents.{Contents, Rules}
-use Rattle.module_image.specs.Spelling.{Image}
 use Rattle.module_image.specs.Reading.{image_of}
 use Rattle.module_image.proofs.Images.{image_read}
 use Rattle.avr_asm.specs.Text.{lines_in}
 use Rattle.avr_asm.specs.Rows.{Row, rows_of}
-use Rattle.avr_asm.specs.Assembly.{IsAssembled, IsImageOf, listing_of, marks_of}
+use Rattle.avr_asm.specs.Assembly.{IsAssembled, listing_of, marks_of}
 use Rattle.avr_asm.specs.Laws.{ImagesPass}
 
 pub read_units : (all : List Row) (c : Contents) → Rules c → IsAssembled all c → (refusal c.code (marks_of c) c.sealed ≡ None) × (listed c.code (marks_of c) c.sealed ≡ listing_of all)

@@ -1,9 +1,9 @@
 -- What rows are like where nothing is refused of them: rules, places, and the lines of the head.
-use Rattle.std.specs.Prelude.{◌≡◌, ◌≢◌, ◌⊎◌, ℕ, zero, suc, ◌+◌, ◌*◌, ◌^◌, ◌<◌, ◌≤◌, ◌==◌, ◌&&◌, ◌||◌, nat_le, nat_lt, Bool, true, false, List, [], ◌∷◌, length, map, slice_index, Option, Some, None, is_none, ⊤, IfSome}
+use Rattle.std.specs.Prelude.{◌≡◌, ℕ, suc, ◌+◌, ◌*◌, ◌^◌, ◌<◌, ◌≤◌, ◌==◌, ◌||◌, nat_le, nat_lt, Bool, true, false, List, [], ◌∷◌, length, Option, Some, None, is_none, ⊤, IfSome}
 use Rattle.std.specs.Str.{bytes_eq}
 use Rattle.std.specs.List.{AllByRecursion}
-use Rattle.std.proofs.Common.{refl, sym, ◌∙◌, ap, subst, cond, arith, inl, inr}
-use Rattle.std.proofs.lemmas.Bool.{and_parts, eqb-true, leb-true, ltb-true, true≢false, cond-true, cond-false}
+use Rattle.std.proofs.Common.{refl, sym, ◌∙◌, ap, subst, cond, arith}
+use Rattle.std.proofs.lemmas.Bool.{and_parts, eqb-true, leb-true, ltb-true, true≢false}
 use Rattle.std.proofs.lemmas.Slice.Eq.{bytes_eq-Decides}
 use Rattle.mote_layout.specs.Limits.{provided_limit, subscribed_limit}
 use Rattle.module_image.specs.declared.face.Provided.{Provided}
@@ -12,13 +12,12 @@ use Rattle.module_image.specs.Contents.{AreProvided, IsModuleId, IsPrototype, Is
 use Rattle.avr_asm.specs.declared.stage.Step.{Step}
 use Rattle.avr_asm.specs.declared.stage.Step.TheVariants.{Opening, Named, Versioned, Sized, Handled, Providing, Subscribing, Constants, Body}
 use Rattle.avr_asm.specs.declared.stage.Stage.{Stage}
-use Rattle.avr_asm.specs.Text.{are_pairs, front, is_blank, is_printable, is_prototype, lines_in, pair_bytes}
+use Rattle.avr_asm.specs.Text.{are_pairs, front, is_blank, is_printable, is_prototype, pair_bytes}
 use Rattle.avr_asm.specs.Line.{Line, Module, Version, State, Handler, Sealed, Provides, Subscribes, Const, Code, Label, Item, Rules, Says, ended}
 use Rattle.avr_asm.specs.Reading.{candidate, said, spelled}
-use Rattle.avr_asm.specs.Rows.{Row, allowed, at_step, behind, is_at, is_between, kept, place_after, rank, rows, rows_of, start, unit_after, with_provided, with_subscribed, with_version}
-use Rattle.avr_asm.specs.Refusals.{count, first, is_misplaced, is_sealed, place_in, row_of, seals}
-use Rattle.avr_asm.specs.Assembly.{constants_of, id_in, id_of, onto_provided, onto_subscribed, pairs_in, pairs_of, provided_of, subscribed_of, version_in, version_of, word_of}
-use Rattle.avr_asm.specs.Encoding.{AreLow}
+use Rattle.avr_asm.specs.Rows.{Row, allowed, behind, is_at, is_between, kept, place_after, rank, rows, unit_after}
+use Rattle.avr_asm.specs.Refusals.{count, first, is_misplaced, is_sealed, seals}
+use Rattle.avr_asm.specs.Assembly.{id_in, id_of, onto_provided, onto_subscribed, pairs_in, pairs_of, provided_of, subscribed_of, version_in, version_of, word_of}
 use Rattle.avr_asm.proofs.Rules.{candidate_rules}
 
 -- What is said is written so, and keeps its rules.

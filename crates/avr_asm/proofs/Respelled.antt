@@ -1,24 +1,18 @@
 -- A unit's text proposes that unit.
-use Rattle.std.specs.Prelude.{◌≡◌, ◌≢◌, ℕ, zero, suc, ◌+◌, ◌-◌, ◌*◌, ◌/◌, ◌%◌, ◌^◌, ◌<◌, ◌≤◌, ◌==◌, ◌&&◌, nat_le, nat_lt, not, Bool, true, false, List, [], ◌∷◌, ◌++◌, length, drop, Option, Some, None, codes, decimal}
-use Rattle.std.specs.Str.{bytes_eq}
+use Rattle.std.specs.Prelude.{◌≡◌, ℕ, ◌+◌, ◌*◌, ◌/◌, ◌%◌, ◌^◌, ◌<◌, ◌≤◌, nat_le, nat_lt, false, List, [], ◌∷◌, decimal}
 use Rattle.std.specs.Char.{digit_char}
-use Rattle.std.specs.List.{AllByRecursion}
-use Rattle.std.proofs.Common.{refl, sym, ◌∙◌, ap, ap₂, subst, cond, arith, append_assoc, append-nil, inl, inr}
-use Rattle.std.proofs.lemmas.Bool.{and_parts, cases_lt, ne_eqb, eq-eqb, le-leb, le-ltb, lt-leb, lt-ltb, true≢false, cond-true, cond-false}
+use Rattle.std.proofs.Common.{refl, sym, ◌∙◌, ap, ap₂, subst, arith, inl, inr}
+use Rattle.std.proofs.lemmas.Bool.{cases_lt, le-leb, le-ltb, lt-leb, lt-ltb, cond-true, cond-false}
 use Rattle.avr_isa.specs.declared.instruction.Instr.{Instr}
 use Rattle.avr_isa.specs.declared.instruction.Instr.TheVariants as instr
 use Rattle.avr_isa.specs.Operands.{IsEncodable}
 use Rattle.mote_base.specs.Digits.{word_digits}
 use Rattle.unit_code.specs.Kinds.{standing_of}
-use Rattle.avr_list.specs.declared.operand.Pointer.TheVariants.{X, Y, Z}
-use Rattle.avr_list.specs.declared.operand.Operand.{Operand}
-use Rattle.avr_list.specs.declared.operand.Operand.TheVariants.{Register, Number, At, Raised, Lowered, Behind, Address, Target}
 use Rattle.avr_list.specs.Instructions.{HasText, instruction_text}
 use Rattle.avr_list.specs.Operands.{operand_text}
 use Rattle.avr_list.proofs.Said.{Operands, nothing, one, two, instruction_said}
-use Rattle.avr_asm.specs.Text.{back, front, has, hex_value, is_digit, is_word, value}
-use Rattle.avr_asm.specs.Line.{Line}
-use Rattle.avr_asm.specs.Reading.{address, bit, byte, compared, constant, controlled, four_digits, headed, load, loaded, middle, named_instruction, named_unit, pair, register, single, six_bits, standing_item, store, upper, upper_pair, wide}
+use Rattle.avr_asm.specs.Text.{back, front, has, hex_value}
+use Rattle.avr_asm.specs.Reading.{address, bit, byte, compared, constant, controlled, headed, load, loaded, middle, named_instruction, named_unit, pair, register, single, six_bits, standing_item, store, upper, upper_pair, wide}
 use Rattle.avr_asm.proofs.Texts.{value-decimal}
 
 -- the texts of the operands

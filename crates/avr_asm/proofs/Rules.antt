@@ -1,23 +1,21 @@
 -- What is proposed keeps its rules.
-use Rattle.std.specs.Prelude.{◌≡◌, ℕ, zero, suc, ◌+◌, ◌-◌, ◌*◌, ◌/◌, ◌%◌, ◌<◌, ◌≤◌, ◌==◌, ◌&&◌, ◌⊎◌, nat_le, Bool, true, false, List, [], ◌∷◌, length, drop, Option, Some, None, codes}
+use Rattle.std.specs.Prelude.{◌≡◌, ℕ, ◌+◌, ◌-◌, ◌*◌, ◌%◌, ◌<◌, ◌⊎◌, nat_le, Bool, true, false, List, [], length, drop, Option, Some, None, codes}
 use Rattle.std.specs.Str.{bytes_eq}
-use Rattle.std.proofs.Common.{refl, sym, ◌∙◌, ap, subst, cond, arith, inl, inr}
+use Rattle.std.proofs.Common.{refl, subst, cond, arith, inl, inr}
 use Rattle.std.proofs.lemmas.Bool.{and_parts, cases_lt, leb-true}
 use Rattle.avr_isa.specs.declared.instruction.Instr.{Instr}
 use Rattle.avr_isa.specs.declared.instruction.Instr.TheVariants as instr
 use Rattle.avr_isa.specs.Operands.{IsEncodable}
 use Rattle.mote_layout.specs.Page.{kernel_call_count, slot_count}
-use Rattle.unit_code.specs.declared.unit.Unit.{Unit}
 use Rattle.unit_code.specs.declared.unit.Unit.TheVariants as unit
 use Rattle.unit_code.specs.declared.kinds.Standing.{Standing}
 use Rattle.unit_code.specs.declared.kinds.Standing.TheVariants.{NoInstruction, Barred, Part}
 use Rattle.unit_code.specs.declared.kinds.Piece.TheVariants.{Whole, Aimed}
-use Rattle.unit_code.specs.Kinds.{standing_of}
 use Rattle.unit_code.specs.Sound.{IsSound}
 use Rattle.unit_code.proofs.SoundKinds.{standing_is_sound}
 use Rattle.module_image.specs.Contents.{constants_limit}
 use Rattle.avr_asm.specs.Text.{are_pairs, back, begins, front, has, is_goal, is_name, is_prototype, value}
-use Rattle.avr_asm.specs.Line.{Line, Module, Version, State, Handler, Sealed, Provides, Subscribes, Const, Code, Label, Item, HasGoal, Rules, ended}
+use Rattle.avr_asm.specs.Line.{Line, Module, Version, State, Handler, Sealed, Code, Label, Item, Rules}
 use Rattle.avr_asm.specs.Reading.{register, upper, middle, pair, upper_pair, byte, six_bits, bit, address, module_id, load, store, load_behind, store_behind, controlled, wide, single, loaded, constant, compared, named_instruction, standing_item, when, aiming, named_unit, provides, subscribes, const_of, headed, candidate}
 
 -- the instruction has its operands in range

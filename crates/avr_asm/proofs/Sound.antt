@@ -1,9 +1,8 @@
 -- The units of rows that nothing is refused of.
-use Rattle.std.specs.Prelude.{◌≡◌, ◌≢◌, ℕ, zero, suc, ◌+◌, ◌-◌, ◌*◌, ◌^◌, ◌<◌, ◌≤◌, ◌==◌, ◌&&◌, ◌||◌, not, nat_le, nat_lt, Bool, true, false, List, [], ◌∷◌, length, slice_index, sum_by, Option, Some, None, is_none, ⊤, IfSome, pos, negsuc, unwrap_or}
-use Rattle.std.specs.Str.{bytes_eq}
+use Rattle.std.specs.Prelude.{◌≡◌, ◌≢◌, ℕ, zero, suc, ◌+◌, ◌<◌, ◌≤◌, ◌&&◌, ◌||◌, not, nat_le, nat_lt, Bool, true, false, List, [], ◌∷◌, length, slice_index, sum_by, Option, Some, None, is_none, ⊤}
 use Rattle.std.specs.List.{AllByRecursion}
-use Rattle.std.proofs.Common.{refl, sym, ◌∙◌, ap, subst, cond, arith, inl, inr, ◌⊎◌, get_or}
-use Rattle.std.proofs.lemmas.Bool.{and_parts, and_from, cases_lt, eqb-true, eq-eqb, ne_eqb, leb-true, leb-false, ltb-true, ltb-false, lt-ltb, le-ltb, true≢false, cond-true, cond-false}
+use Rattle.std.proofs.Common.{refl, sym, ◌∙◌, ap, subst, cond, arith, inl, inr}
+use Rattle.std.proofs.lemmas.Bool.{and_parts, cases_lt, eq-eqb, leb-false, ltb-false, lt-ltb, le-ltb, true≢false, cond-true, cond-false}
 use Rattle.std.proofs.lemmas.List.Sums.{sum_by-cons}
 use Rattle.avr_isa.specs.declared.instruction.Instr.{Instr}
 use Rattle.avr_isa.specs.Place.{second_word}
@@ -14,17 +13,17 @@ use Rattle.unit_code.specs.declared.unit.Unit.{Unit}
 use Rattle.unit_code.specs.declared.unit.Unit.TheVariants.{Plain, Store, Load, Push, Pop, SpGroup, Reserve, Skip, Branch, Jump, LocalCall, KernelCall, SlotCall, SlotIndirect, Return}
 use Rattle.unit_code.specs.declared.unit.Shape.TheVariants.{Long}
 use Rattle.unit_code.specs.Ends.{goes_on, leaves, long_length}
-use Rattle.unit_code.specs.Lengths.{instruction_length, spelled_length}
+use Rattle.unit_code.specs.Lengths.{spelled_length}
 use Rattle.unit_code.specs.Loads.{guarded, is_load, load_where}
 use Rattle.unit_code.specs.Kinds.{standing_of, whole}
-use Rattle.unit_code.specs.Proper.{CanBeSkipped, IsGuardedSo, IsOfKind, IsProper, LeadsBelow, SkipsAreSound, SkipsTo, is_group_unit}
+use Rattle.unit_code.specs.Proper.{CanBeSkipped, IsGuardedSo, IsOfKind, LeadsBelow, SkipsAreSound, SkipsTo, is_group_unit}
 use Rattle.unit_code.specs.Spelled.{offset_to}
-use Rattle.avr_asm.specs.Line.{Line, Module, Version, State, Handler, Sealed, Provides, Subscribes, Const, Code, Label, Item, HasGoal, Rules}
-use Rattle.avr_asm.specs.Rows.{Row, place_after, unit_after, unit_words}
-use Rattle.avr_asm.specs.Refusals.{place_in, row_of, can_be_skipped, cannot_end, cannot_skip, count, goal_of, is_beyond, is_far, is_off, kinds_in, lacks_label, leads_astray, led, onto_kinds, resolved, some_goal, stuck}
+use Rattle.avr_asm.specs.Line.{Line, Item, HasGoal}
+use Rattle.avr_asm.specs.Rows.{Row, unit_words}
+use Rattle.avr_asm.specs.Refusals.{place_in, row_of, can_be_skipped, cannot_end, cannot_skip, is_beyond, is_far, is_off, kinds_in, lacks_label, leads_astray, led, onto_kinds, resolved, some_goal, stuck}
 use Rattle.avr_asm.specs.Assembly.{aimed, onto_units, units_in}
-use Rattle.avr_asm.specs.Encoding.{AreEncodable, Reaches, places_from}
-use Rattle.avr_asm.specs.Text.{is_goal, is_name, is_number, are_word}
+use Rattle.avr_asm.specs.Encoding.{Reaches, places_from}
+use Rattle.avr_asm.specs.Text.{is_goal}
 
 -- What the code's end, its skips and its length look at is the same without a target.
 pub record Alike (u v : Unit) : Type 0 where

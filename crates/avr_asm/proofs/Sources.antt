@@ -1,14 +1,14 @@
 -- The texts of lines, one behind the other.
-use Rattle.std.specs.Prelude.{◌≡◌, ℕ, Bool, true, false, List, [], ◌∷◌, ◌++◌, ◌+◌, ◌<◌, suc, length, drop, codes, decimal}
+use Rattle.std.specs.Prelude.{◌≡◌, ℕ, true, false, List, [], ◌∷◌, ◌++◌, ◌+◌, ◌<◌, suc, length, drop, codes, decimal}
 use Rattle.std.proofs.Common.{refl, sym, ◌∙◌, ap, append_assoc, append-nil, arith, get_or}
 use Rattle.std.proofs.Math.Seq.{drop-cons}
 use Rattle.module_image.specs.declared.face.Subscribed.{Subscribed}
 use Rattle.unit_code.specs.declared.unit.Unit.{Unit}
-use Rattle.unit_code.specs.declared.unit.Unit.TheVariants.{Plain, Store, Load, Push, Pop, SpGroup, Reserve, Skip, Branch, Jump, LocalCall, KernelCall, SlotCall, SlotIndirect, Return}
+use Rattle.unit_code.specs.declared.unit.Unit.TheVariants.{Plain, Load, Branch, Jump, LocalCall}
 use Rattle.module_image.specs.Contents.{Contents}
 use Rattle.mote_base.specs.Digits.{pairs_text}
 use Rattle.avr_list.specs.Lines.{unit_text}
-use Rattle.avr_asm.specs.Line.{Line, Module, Version, State, Handler, Sealed, Provides, Subscribes, Const, Code, Label, Item, ended, item_text}
+use Rattle.avr_asm.specs.Line.{Line, Module, Version, State, Handler, Subscribes, Code, Item, ended, item_text}
 use Rattle.avr_asm.specs.Source.{aim, bare, constant_lines, lines_behind, lines_with, opening_lines, provided_lines, seal_lines, subscribed_lines, text_of, unit_lines}
 
 -- the text of a unit's line is the listing's

@@ -1,10 +1,10 @@
 -- Texts that a byte parts, and the value of a number's digits.
-use Rattle.std.specs.Prelude.{ℕ, zero, suc, ◌+◌, ◌-◌, ◌*◌, ◌^◌, ◌<◌, ◌≤◌, ◌≡◌, ◌==◌, ◌&&◌, ◌||◌, min, Bool, true, false, List, [], ◌∷◌, ◌++◌, length, decimal}
-use Rattle.std.proofs.Common.{refl, sym, ◌∙◌, ap, cond, arith, rules, append-nil}
+use Rattle.std.specs.Prelude.{ℕ, ◌+◌, ◌-◌, ◌*◌, ◌^◌, ◌<◌, ◌≡◌, ◌==◌, min, true, false, List, [], ◌∷◌, ◌++◌, decimal}
+use Rattle.std.proofs.Common.{refl, sym, ◌∙◌, ap, cond, arith, rules}
 use Rattle.std.proofs.lemmas.Bool.{and_parts, and_from, or_left, ne_eqb, eq-eqb, true≢false, cond-true, cond-false}
 use Rattle.std.proofs.lemmas.Str.Parse.{IsNumeralModel, numerals_by_fold}
 use Rattle.std.proofs.lemmas.Fmt.{digits_decimal, digits_value-decimal}
-use Rattle.avr_asm.specs.Text.{is_digit, is_word, are_digits, are_word, most, value_from, value, front, back, has, is_printable}
+use Rattle.avr_asm.specs.Text.{is_digit, is_word, are_digits, are_word, most, value_from, value, front, back, has}
 
 pub front-parted : (b : ℕ) (w t : List ℕ) → has b w ≡ false → front b (w ++ (b ∷ t)) ≡ w
 front-parted b [] t h = cond-true (b == b) [] (b ∷ front b t) (eq-eqb b b refl)

@@ -1,9 +1,9 @@
 -- A text has one image.
-use Rattle.std.specs.Prelude.{◌≡◌, ℕ, zero, suc, ◌+◌, ◌^◌, ◌<◌, ◌≤◌, true, false, List, [], ◌∷◌, length, drop, sum_by, Option, Some, None, Ok, IfSome, ⊤}
+use Rattle.std.specs.Prelude.{◌≡◌, ℕ, zero, suc, ◌+◌, ◌^◌, ◌<◌, ◌≤◌, true, false, List, [], ◌∷◌, drop, sum_by, Some, Ok}
 use Rattle.std.specs.List.{AllByRecursion}
-use Rattle.std.proofs.Common.{refl, sym, ◌∙◌, ap, ap₂, subst, arith}
+use Rattle.std.proofs.Common.{sym, ◌∙◌, ap, ap₂, subst, arith}
 use Rattle.avr_isa.specs.Decoded.{decoded}
-use Rattle.avr_isa.specs.Laws.{AreWords, kept}
+use Rattle.avr_isa.specs.Laws.{kept}
 use Rattle.avr_isa.specs.Table.{word_count}
 use Rattle.avr_isa.specs.declared.instruction.Instr.{Instr}
 use Rattle.avr_isa.specs.declared.instruction.Instr.TheVariants as instr
@@ -14,11 +14,10 @@ use Rattle.unit_code.specs.Items.{next_word}
 use Rattle.unit_code.specs.Lengths.{instruction_length}
 use Rattle.unit_code.specs.Spelled.{AreInstructionsOf, BeginWith, Spell}
 use Rattle.unit_code.proofs.SpelledBack.{small_next}
-use Rattle.module_image.specs.Contents.{Contents}
-use Rattle.module_image.specs.Spelling.{Image, spelling}
+use Rattle.module_image.specs.Spelling.{spelling}
 use Rattle.avr_asm.specs.Text.{lines_in}
 use Rattle.avr_asm.specs.Rows.{Row, rows_of}
-use Rattle.avr_asm.specs.Assembly.{IsAssembled, IsImageOf, contents_of, listing_of}
+use Rattle.avr_asm.specs.Assembly.{contents_of, listing_of}
 use Rattle.avr_asm.specs.Laws.{ImagesAreOne}
 
 -- a unit has one list of instructions

@@ -1,19 +1,16 @@
 -- What is written is read.
-use Rattle.std.specs.Prelude.{◌≡◌, ◌≢◌, ◌⊎◌, ℕ, zero, suc, ◌+◌, ◌-◌, ◌*◌, ◌/◌, ◌%◌, ◌^◌, ◌<◌, ◌≤◌, ◌==◌, ◌&&◌, nat_le, nat_lt, Bool, true, false, List, [], ◌∷◌, ◌++◌, length, drop, Option, Some, None, codes, decimal, ⊤}
+use Rattle.std.specs.Prelude.{◌≡◌, ◌⊎◌, ℕ, ◌+◌, ◌-◌, ◌*◌, ◌/◌, ◌%◌, ◌^◌, ◌<◌, ◌≤◌, ◌==◌, nat_le, nat_lt, Bool, true, false, List, [], ◌∷◌, ◌++◌, length, drop, Option, Some, None, codes, decimal}
 use Rattle.std.specs.Str.{bytes_eq}
 use Rattle.std.specs.Char.{digit_char}
-use Rattle.std.specs.List.{AllByRecursion}
-use Rattle.std.proofs.Common.{refl, sym, ◌∙◌, ap, ap₂, subst, cond, arith, append_assoc, append-nil, inl, inr}
-use Rattle.std.proofs.lemmas.Bool.{and_parts, and_from, cases_lt, ne_eqb, eq-eqb, le-leb, le-ltb, lt-ltb, true≢false, cond-true, cond-false}
+use Rattle.std.proofs.Common.{refl, sym, ◌∙◌, ap, ap₂, subst, arith, append_assoc, inl, inr}
+use Rattle.std.proofs.lemmas.Bool.{and_parts, and_from, cases_lt, ne_eqb, le-leb, le-ltb, lt-ltb, true≢false, cond-true, cond-false}
 use Rattle.std.proofs.lemmas.Slice.Eq.{bytes_eq-Decides}
 use Rattle.avr_isa.specs.declared.instruction.Instr.{Instr}
-use Rattle.avr_isa.specs.declared.instruction.Instr.TheVariants as instr
 use Rattle.avr_isa.specs.Operands.{IsEncodable}
-use Rattle.mote_base.specs.Digits.{word_digits}
 use Rattle.mote_layout.specs.Page.{kernel_call_count, slot_count}
 use Rattle.unit_code.specs.declared.unit.Unit.{Unit}
 use Rattle.unit_code.specs.declared.unit.Unit.TheVariants as unit
-use Rattle.unit_code.specs.Kinds.{standing_of, whole}
+use Rattle.unit_code.specs.Kinds.{standing_of}
 use Rattle.module_image.specs.Contents.{constants_limit}
 use Rattle.avr_list.specs.declared.operand.Pointer.TheVariants.{X, Y, Z}
 use Rattle.avr_list.specs.declared.operand.Operand.{Operand}
@@ -26,9 +23,9 @@ use Rattle.avr_list.proofs.Held.{plain_has_text, skip_has_text, store_has_text}
 use Rattle.avr_list.proofs.Said.{Operands, nothing, one, two, instruction_said, joined, unit_is_said}
 use Rattle.avr_list.proofs.Ranged.{AreRanged, IsRanged, unit_ranged}
 use Rattle.avr_list.proofs.Joined.{IsFree, flat, joined_flat, operand_free}
-use Rattle.avr_asm.specs.Text.{are_pairs, are_word, back, front, has, is_goal, is_hex, is_name, is_number, is_printable, is_prototype, is_word, value}
+use Rattle.avr_asm.specs.Text.{are_pairs, are_word, back, front, has, is_goal, is_hex, is_name, is_printable, is_prototype, value}
 use Rattle.avr_asm.specs.Line.{Line, Module, Version, State, Handler, Sealed, Provides, Subscribes, Const, Code, Label, Item, Rules, Says, ended, item_text, line_text}
-use Rattle.avr_asm.specs.Reading.{aiming, bit, candidate, compared, const_of, constant, controlled, headed, load, loaded, module_id, named_instruction, named_unit, provides, register, said, single, spelled, standing_item, store, subscribes, wide, when}
+use Rattle.avr_asm.specs.Reading.{aiming, bit, candidate, compared, constant, controlled, headed, loaded, module_id, named_instruction, named_unit, provides, register, said, single, spelled, standing_item, subscribes, wide, when}
 use Rattle.avr_asm.specs.Laws.{LinesAreReadInOneWay}
 use Rattle.avr_asm.proofs.Texts.{back-none, back-parted, front-parted, front-whole, has-behind, has-parted, lacks-decimal, lacks-word, value-decimal}
 use Rattle.avr_asm.proofs.Placed.{said_sound}

@@ -1,5 +1,5 @@
 -- The image of a text.
-use Rattle.std.specs.Prelude.{◌≡◌, ℕ, Bool, true, false, List, [], ◌∷◌, map, Option, Some, None, unwrap_or}
+use Rattle.std.specs.Prelude.{◌≡◌, ℕ, Bool, false, List, [], ◌∷◌, map, Option, Some, unwrap_or}
 use Rattle.unit_code.specs.declared.unit.Unit.{Unit}
 use Rattle.unit_code.specs.declared.unit.Unit.TheVariants.{Branch, Jump, LocalCall}
 use Rattle.unit_code.specs.Listing.{Listing}
@@ -10,7 +10,7 @@ use Rattle.module_image.specs.declared.face.Subscribed.{Subscribed}
 use Rattle.module_image.specs.Contents.{Contents}
 use Rattle.module_image.specs.Spelling.{Image}
 use Rattle.avr_asm.specs.Text.{lines_in, pair_bytes}
-use Rattle.avr_asm.specs.Line.{Line, Module, Version, State, Handler, Sealed, Provides, Subscribes, Const, Code, Label, Item}
+use Rattle.avr_asm.specs.Line.{Line, Module, Version, State, Handler, Provides, Subscribes, Const, Item}
 use Rattle.avr_asm.specs.Rows.{Row, rows_of}
 use Rattle.avr_asm.specs.Refusals.{is_sealed, led, place_in, resolved, row_of, some_goal}
 

@@ -1,5 +1,5 @@
 -- What code has to keep to be encoded, and the words that encode it.
-use Rattle.std.specs.Prelude.{◌≡◌, ◌≢◌, ℕ, ◌+◌, ◌<◌, ◌^◌, ◌*◌, ◌≤◌, sum_by, Bool, true, false, List, [], ◌∷◌, ◌++◌, length, slice_index, Option, Some, None, ⊤}
+use Rattle.std.specs.Prelude.{◌≡◌, ◌≢◌, ℕ, ◌+◌, ◌<◌, ◌^◌, ◌≤◌, sum_by, true, false, List, [], ◌∷◌, ◌++◌, length, slice_index, Option, Some, None, ⊤}
 use Rattle.std.specs.List.{AllByRecursion}
 use Rattle.avr_isa.specs.declared.instruction.Instr.{Instr}
 use Rattle.avr_isa.specs.Operands.{IsBranchOffset, IsJumpOffset}

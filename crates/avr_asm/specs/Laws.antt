@@ -1,11 +1,8 @@
 -- What holds of texts and images.
-use Rattle.std.specs.Prelude.{◌≡◌, ◌≤◌, ◌⊎◌, ℕ, Bool, true, false, List, [], ◌∷◌, Option, Some, None, Ok}
-use Rattle.std.specs.List.{AllByRecursion}
+use Rattle.std.specs.Prelude.{◌≡◌, ◌≤◌, ◌⊎◌, ℕ, Bool, true, false, List, [], ◌∷◌, Some, None, Ok}
 use Rattle.unit_code.specs.Units.{refusal}
 use Rattle.module_image.specs.Contents.{Contents}
 use Rattle.module_image.specs.Reading.{image_of}
-use Rattle.module_image.specs.Spelling.{Image}
-use Rattle.avr_asm.specs.Text.{lines_in}
 use Rattle.avr_asm.specs.Line.{Line, Says}
 use Rattle.avr_asm.specs.Reading.{said}
 use Rattle.avr_asm.specs.Rows.{Row, rows_of}
@@ -50,10 +47,3 @@ ImagesAreOne = (text a b : List ℕ) → IsImageOf text a → IsImageOf text b �
 abbrev pub SourceIsCanonical : Type 0
 SourceIsCanonical = (text bytes : List ℕ) (c : Contents) → refusal_of text ≡ None → IsImageOf text bytes → image_of bytes ≡ Ok c
     → source_of c ≡ canon text
-
--- The source of an original image whose code has units is a text, and its image is that image, byte for byte.
-pub record SourceIsAssembled : Type 0 where
-  pub accepted : (bytes : List ℕ) (c : Contents) → Image bytes c → c.rewritten ≡ false → refusal c.code (marks_of c) c.sealed ≡ None
-      → refusal_of (source_of c) ≡ None
-  pub same : (bytes other : List ℕ) (c : Contents) → Image bytes c → c.rewritten ≡ false → refusal c.code (marks_of c) c.sealed ≡ None
-      → IsImageOf (source_of c) other → other ≡ bytes

@@ -1,5 +1,5 @@
 -- What a line of a module's text says, and how it is written.
-use Rattle.std.specs.Prelude.{◌≡◌, ℕ, ◌*◌, ◌<◌, ◌≤◌, Bool, true, false, List, [], ◌∷◌, ◌++◌, length, codes, decimal, ⊤}
+use Rattle.std.specs.Prelude.{◌≡◌, ℕ, ◌*◌, ◌<◌, ◌≤◌, true, false, List, [], ◌++◌, length, codes, decimal, ⊤}
 use Rattle.unit_code.specs.declared.unit.Unit.{Unit}
 use Rattle.unit_code.specs.declared.unit.Unit.TheVariants.{Branch, Jump, LocalCall}
 use Rattle.unit_code.specs.Proper.{IsGuardedSo, IsOfKind}

@@ -3,14 +3,14 @@ use Rattle.std.specs.Prelude.{ℕ, suc, ◌+◌, ◌==◌, ◌&&◌, ◌||◌, n
 use Rattle.std.specs.Str.{bytes_eq}
 use Rattle.mote_layout.specs.Memory.{bank_words}
 use Rattle.unit_code.specs.declared.unit.Unit.{Unit}
-use Rattle.unit_code.specs.declared.unit.Unit.TheVariants.{Skip, Branch, Jump, LocalCall}
+use Rattle.unit_code.specs.declared.unit.Unit.TheVariants.{Skip, Branch, LocalCall}
 use Rattle.unit_code.specs.Ends.{leaves, long_length}
 use Rattle.unit_code.specs.Loads.{guarded}
 use Rattle.unit_code.specs.Proper.{is_group_unit}
 use Rattle.avr_asm.specs.declared.error.AsmError.{AsmError}
 use Rattle.avr_asm.specs.declared.error.AsmError.TheVariants as error
 use Rattle.avr_asm.specs.Text.{is_number, lines_in, value}
-use Rattle.avr_asm.specs.Line.{Line, Module, Version, State, Handler, Sealed, Provides, Subscribes, Const, Code, Label, Item}
+use Rattle.avr_asm.specs.Line.{Line, Handler, Sealed, Provides, Label, Item}
 use Rattle.avr_asm.specs.Rows.{Row, behind, rows_of, unit_after}
 
 -- the line of the first row at which a test holds, by it and those behind it

@@ -3,7 +3,7 @@ use Rattle.std.specs.Prelude.{ℕ, suc, ◌+◌, ◌==◌, ◌&&◌, nat_le, nat
 use Rattle.mote_layout.specs.Limits.{provided_limit, subscribed_limit}
 use Rattle.module_image.specs.Contents.{second_version}
 use Rattle.unit_code.specs.declared.unit.Unit.{Unit}
-use Rattle.unit_code.specs.declared.unit.Unit.TheVariants.{Plain, Store, Load, Push, Pop, SpGroup, Reserve, Skip, Branch, Jump, LocalCall, KernelCall, SlotCall, SlotIndirect, Return}
+use Rattle.unit_code.specs.declared.unit.Unit.TheVariants.{Plain, Store, Load, SpGroup, Skip, KernelCall, SlotCall}
 use Rattle.unit_code.specs.Lengths.{instruction_length}
 use Rattle.avr_asm.specs.declared.stage.Step.{Step}
 use Rattle.avr_asm.specs.declared.stage.Step.TheVariants.{Opening, Named, Versioned, Sized, Handled, Closed, Providing, Subscribing, Constants, Body}

@@ -1,5 +1,5 @@
 -- What the values of the code stand for.
-use Rattle.std.specs.Prelude.{ℕ, Option, Some, None}
+use Rattle.std.specs.Prelude.{Option, Some, None}
 use Rattle.avr_asm.specs.declared.row.Said.{Said}
 use Rattle.avr_asm.specs.declared.row.Said.TheVariants as said
 use Rattle.avr_asm.specs.declared.row.Row as declared

@@ -1,5 +1,5 @@
 -- What holds of each line of a dump.
-use Rattle.std.proofs.Common.{◌≡◌, ℕ, zero, suc, ◌+◌, ◌*◌, ◌≤◌, arith, length, List, [], ◌∷◌, ◌++◌, map, filter, Bool, true, false, not, refl, ap, Option, Some, None}
+use Rattle.std.proofs.Common.{◌≡◌, ℕ, zero, suc, ◌+◌, ◌*◌, ◌≤◌, arith, length, List, [], ◌∷◌, ◌++◌, map, filter, Bool, true, false, refl, ap, Option, Some, None}
 use Rattle.std.specs.List.{AllByRecursion}
 use Rattle.std.proofs.lemmas.List.{length-append, length-map}
 use Rattle.mote_base.specs.Messages.{AreWithinLimit, queue_limit}

@@ -1,5 +1,5 @@
 -- Each turn of a live state leaves fewer to come.
-use Rattle.std.proofs.Common.{Ok, Err, ◌≡◌, ℕ, suc, if◌then◌else◌, nat_lt, ◌+◌, ◌<◌, ◌≤◌, List, [], ◌∷◌, ◌++◌, length, drop, Bool, true, false, refl, ap, ◌∙◌, subst, arith, Option, Some, None, slice_get, is_some}
+use Rattle.std.proofs.Common.{Ok, Err, ◌≡◌, ℕ, suc, if◌then◌else◌, nat_lt, ◌+◌, ◌<◌, ◌≤◌, List, [], ◌∷◌, ◌++◌, length, drop, Bool, true, false, refl, ap, ◌∙◌, arith, Option, Some, None, slice_get, is_some}
 use Rattle.std.proofs.lemmas.Bool.{cond-true, lt-ltb, le-ltb}
 use Rattle.std.proofs.lemmas.Option.{none-some, same_Some, slice_get_within}
 use Rattle.std.proofs.lemmas.List.{length-drop}

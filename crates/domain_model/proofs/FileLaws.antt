@@ -1,11 +1,12 @@
 -- Each file is what `prepared` makes of it.
-use Rattle.std.proofs.Common.{◌≡◌, ℕ, zero, suc, ◌<◌, ◌≤◌, inl, inr, List, [], ◌∷◌, length, drop, get_or, slice_index, cond, Bool, ◌==◌, ◌||◌, true, false, refl, sym, ap, ◌∙◌, arith, Option, Some, None, Result, Ok, Err}
+use Rattle.std.proofs.Common.{◌≡◌, ℕ, zero, suc, ◌<◌, ◌≤◌, inl, inr, List, [], ◌∷◌, length, drop, get_or, slice_index, cond, Bool, ◌==◌, true, false, refl, sym, ap, ◌∙◌, arith, Option, Some, None, Result, Ok, Err}
 use Rattle.std.specs.Prelude.{option_map}
 use Rattle.std.specs.List.{AllByRecursion, Contains, cons_option, filter_map}
 use Rattle.std.proofs.lemmas.Bool.{true≢false}
 use Rattle.std.proofs.lemmas.Bool.Decides.{nat_tests}
 use Rattle.unit_code.specs.declared.error.CodeError.{CodeError}
 use Rattle.unit_code.specs.declared.error.CodeError.TheVariants.{Entry}
+use Rattle.unit_code.specs.Listing.{Listing}
 use Rattle.unit_code.specs.Refusals.{stray_mark, least_stray}
 use Rattle.unit_code.specs.Targets.{number_of}
 use Rattle.unit_code.specs.Units.{places_of, units_of, refusal, listed}
@@ -13,14 +14,21 @@ use Rattle.unit_code.proofs.FirstLaw.{refusal_is_first, no_refusal_none_holds}
 use Rattle.unit_code.proofs.Numbers.{number_of-some}
 use Rattle.unit_code.proofs.ProperUnits.{no_refusal}
 use Rattle.unit_code.proofs.Strays.{least_stray-none}
+use Rattle.harbor_verify.specs.declared.error.VerifyError.{VerifyError}
+use Rattle.harbor_verify.specs.declared.error.VerifyError.TheVariants.{Entry as EntryVerdict}
+use Rattle.harbor_verify.specs.Verdict.{or_else, refusal as verify_refusal, refusal_of_targets, refusal_of_templates, refusal_of_units, refusal_of_words, stray_mark as stray_verdict, units_in}
+use Rattle.harbor_verify.specs.Walks.{starts_in}
+use Rattle.harbor_verify.proofs.FirstLaw.{refusal_is_first as verdict_is_first}
+use Rattle.harbor_verify.proofs.NoRefusal.{neither, no_refusal_spells, none_of}
+use Rattle.harbor_verify.proofs.Straight.{judged}
 use Rattle.module_image.specs.declared.error.ImageError.{ImageError}
 use Rattle.module_image.specs.Contents.{Contents, IsVersion, first_version, second_version}
 use Rattle.module_image.specs.Reading.{image_of}
 use Rattle.module_image.specs.Spelling.{Image}
 use Rattle.module_image.proofs.Images.{image_takes, image_read}
 use Rattle.domain_model.specs.Units.{are_built}
-use Rattle.domain_model.specs.Prepared.{marks_of, module_of, prepared_code, prepared_contents, prepared_image}
-use Rattle.domain_model.specs.Files.{BeginAt, ComesTo, FilesAreAsPrepared}
+use Rattle.domain_model.specs.Prepared.{marks_of, module_of, prepared_code, prepared_contents, prepared_first, prepared_image, prepared_words, spelled}
+use Rattle.domain_model.specs.Files.{AreReadFrom, AreSpelledIn, AreUnitsOf, BeginAt, ComesTo, FilesAreAsPrepared}
 use Rattle.domain_model.proofs.Kept.{contained_first, contained_later}
 
 -- The units of marks begin at the marks.
@@ -51,6 +59,21 @@ parted places words (n ∷ ns) word h = h
 marks_begin : (words marks : List ℕ) (sealed : Bool) → refusal words marks sealed ≡ None → BeginAt (places_of words) marks (filter_map (number_of (places_of words)) marks)
 marks_begin words marks sealed h = all_begin (places_of words) marks (no_stray (places_of words) marks (no_refusal words marks sealed h).2)
 
+-- No mark of rewritten words that are not refused is astray.
+no_stray_verdict : (words marks : List ℕ) (sealed : Bool) → verify_refusal words marks sealed ≡ None → (mark : ℕ) → Contains marks mark → number_of (starts_in words) mark ≡ None → ⊥
+unfolding verify_refusal stray_verdict
+no_stray_verdict words marks sealed h =
+    let ends = or_else (refusal_of_units words (units_in words)) (stray_verdict (starts_in words) marks) in
+    let parts = or_else (refusal_of_targets words) ends in
+    let read = neither (refusal_of_words sealed words) (or_else (refusal_of_templates sealed words) parts) h in
+    let stand = neither (refusal_of_templates sealed words) parts read.1 in
+    let aims = neither (refusal_of_targets words) ends stand.1 in
+    let last = neither (refusal_of_units words (units_in words)) (stray_verdict (starts_in words) marks) aims.1 in
+    least_stray-none (starts_in words) marks (none_of (least_stray (starts_in words) marks) (λ mark. EntryVerdict mark) last.1)
+
+pub starts_begin : (words marks : List ℕ) (sealed : Bool) → verify_refusal words marks sealed ≡ None → BeginAt (starts_in words) marks (filter_map (number_of (starts_in words)) marks)
+starts_begin words marks sealed h = all_begin (starts_in words) marks (no_stray_verdict words marks sealed h)
+
 -- The file, part by part.
 
 other_version : (version : ℕ) → version ≡ second_version → (version == second_version) ≡ false → ⊥
@@ -60,26 +83,16 @@ module _ (file : List ℕ) (c : Contents) (image : Image file c) where
   short : length c.code ≤ 65535
   short = omega (arith, image.rules.code_count)
 
-  units_come : (b : Bool) → c.rewritten ≡ false → c.version ≡ first_version → refusal c.code (marks_of c) c.sealed ≡ None → are_built (units_of c.code c.sealed) ≡ b → ComesTo (cond b (Some (Ok (module_of c (listed c.code (marks_of c) c.sealed)))) None) file
-  unfolding listed
-  units_come true original first none is = record {
+  units_come : (l : Listing) (b : Bool) → c.version ≡ first_version → AreUnitsOf l.units (slice_index l.marks 0 ∷ drop 1 l.marks) c → are_built l.units ≡ b → ComesTo (cond b (Some (Ok (module_of c l))) None) file
+  units_come l true first code is = record {
     contents = c;
     image = image;
-    holds = record {
-      original = original;
-      first = first;
-      accepted = no_refusal_none_holds c.code (marks_of c) c.sealed short none;
-      face = refl;
-      state_size = refl;
-      units = refl;
-      entered = parted (places_of c.code) _ _ c.handler (marks_begin c.code (marks_of c) c.sealed none);
-      built = is;
-    };
+    holds = record { first = first; code = code; face = refl; state_size = refl; built = is };
   }
-  units_come false original first none is = record {
+  units_come l false first code is = record {
     contents = c;
     image = image;
-    holds = inr (inr (no_refusal_none_holds c.code (marks_of c) c.sealed short none, is));
+    holds = inr (l.units, slice_index l.marks 0 ∷ drop 1 l.marks, code, is);
   }
 
   code_comes : (o : Option CodeError) → c.rewritten ≡ false → c.version ≡ first_version → refusal c.code (marks_of c) c.sealed ≡ o → ComesTo (prepared_code c o) file
@@ -89,23 +102,47 @@ module _ (file : List ℕ) (c : Contents) (image : Image file c) where
     image = image;
     holds = record { original = original; version = first; first = refusal_is_first c.code (marks_of c) c.sealed e short is };
   }
-  code_comes None original first is = units_come (are_built (units_of c.code c.sealed)) original first is refl
+  code_comes None original first is =
+      let units : AreReadFrom (units_of c.code c.sealed) _ c = record {
+        original = original;
+        accepted = no_refusal_none_holds c.code (marks_of c) c.sealed short is;
+        are = refl;
+        entered = parted (places_of c.code) _ _ c.handler (marks_begin c.code (marks_of c) c.sealed is);
+      } in
+      units_come (listed c.code (marks_of c) c.sealed) (are_built (units_of c.code c.sealed)) first (inl units) refl
+
+  words_come : (o : Option VerifyError) → c.rewritten ≡ true → c.version ≡ first_version → verify_refusal c.code (marks_of c) c.sealed ≡ o → ComesTo (prepared_words c o) file
+  unfolding spelled
+  words_come (Some e) rewritten first is = record {
+    contents = c;
+    image = image;
+    holds = record { rewritten = rewritten; version = first; first = verdict_is_first c.sealed c.code (marks_of c) short image.rules.code e is };
+  }
+  words_come None rewritten first is =
+      let units : AreSpelledIn (units_in c.code) _ c = record {
+        rewritten = rewritten;
+        starts = starts_in c.code;
+        spells = no_refusal_spells c.sealed c.code (marks_of c) image.rules.code is;
+        only = λ others places h. let read = judged c.sealed c.code (marks_of c) short image.rules.code others places h in (read.1, read.2);
+        entered = parted (starts_in c.code) _ _ c.handler (starts_begin c.code (marks_of c) c.sealed is);
+      } in
+      units_come (spelled c.code (marks_of c)) (are_built (units_in c.code)) first (inr units) refl
 
   first_where : IsVersion c.version → (c.version == second_version) ≡ false → c.version ≡ first_version
   first_where (inl first) is = first
   first_where (inr second) is = absurd (other_version c.version second is)
 
-  version_comes : (b : Bool) → c.rewritten ≡ false → (c.version == second_version) ≡ b → ComesTo (prepared_contents b c) file
-  version_comes true original is = record { contents = c; image = image; holds = inr (inl (grind (arith, nat_tests))) }
-  version_comes false original is = code_comes (refusal c.code (marks_of c) c.sealed) original (first_where image.rules.version is) refl
+  first_comes : (b : Bool) → c.rewritten ≡ b → c.version ≡ first_version → ComesTo (prepared_first b c) file
+  first_comes true rewritten first = words_come (verify_refusal c.code (marks_of c) c.sealed) rewritten first refl
+  first_comes false original first = code_comes (refusal c.code (marks_of c) c.sealed) original first refl
 
-  contents_come : (b : Bool) → c.rewritten ≡ b → ComesTo (prepared_contents (b || c.version == second_version) c) file
-  contents_come true is = record { contents = c; image = image; holds = inl is }
-  contents_come false is = version_comes (c.version == second_version) is refl
+  contents_come : (b : Bool) → (c.version == second_version) ≡ b → ComesTo (prepared_contents b c) file
+  contents_come true is = record { contents = c; image = image; holds = inl (grind (arith, nat_tests)) }
+  contents_come false is = first_comes c.rewritten refl (first_where image.rules.version is)
 
 file_comes : (file : List ℕ) (r : Result Contents ImageError) → ((i : ℕ) → get_or file i 0 < 256) → image_of file ≡ r → ComesTo (prepared_image r) file
 file_comes file (Err e) bytes is = λ c image. let read = image_read file (image_of file) c refl image in cc
-file_comes file (Ok c) bytes is = contents_come file c (image_takes file c bytes is) c.rewritten refl
+file_comes file (Ok c) bytes is = contents_come file c (image_takes file c bytes is) (c.version == second_version) refl
 
 byte_below : (file : List ℕ) → AllByRecursion (λ b. b < 256) file → (i : ℕ) → get_or file i 0 < 256
 byte_below [] h i = omega arith

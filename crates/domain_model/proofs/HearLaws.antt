@@ -1,21 +1,19 @@
 -- A packet that comes keeps kernel and runner good: it brings one message at most, with a block that was free.
-use Rattle.std.proofs.Common.{◌≡◌, ℕ, ◌+◌, ◌-◌, ◌^◌, ◌<◌, ◌≤◌, ◌==◌, nat_lt, inl, inr, List, [], ◌∷◌, ◌++◌, length, drop, Bool, true, false, refl, sym, ap, ◌∙◌, subst, arith, Option, Some, None}
-use Rattle.std.specs.List.{AllByRecursion, list_any}
-use Rattle.std.proofs.lemmas.Bool.{cond_both}
+use Rattle.std.proofs.Common.{◌≡◌, ℕ, ◌+◌, ◌-◌, ◌^◌, ◌<◌, ◌≤◌, ◌==◌, nat_lt, inl, inr, List, length, Bool, true, false, refl, ◌∙◌, arith, Option, Some, None}
+use Rattle.std.specs.List.{list_any}
 use Rattle.std.proofs.lemmas.List.{length-append, length-take, length-drop}
 use Rattle.mote_base.specs.Messages.{Lists, in_order, appended, queue_limit}
-use Rattle.mote_layout.specs.Memory.{ram_start, ram_bytes, kernel}
+use Rattle.mote_layout.specs.Memory.{ram_start, kernel}
 use Rattle.mote_layout.specs.Parcels.{Payload}
 use Rattle.mote_layout.specs.declared.segment.Segment.{Segment}
 use Rattle.domain_model.specs.declared.event.Packet.{Packet}
-use Rattle.domain_model.specs.declared.line.TraceLine.{TraceLine}
-use Rattle.domain_model.specs.State.{Processor, Message, KernelState, RunnerState, payload_address, with_bytes}
+use Rattle.domain_model.specs.State.{Message, KernelState, RunnerState, payload_address, with_bytes}
 use Rattle.domain_model.specs.Modules.{is_loaded}
-use Rattle.domain_model.specs.Payloads.{IsAsLong, HoldsPayloads}
+use Rattle.domain_model.specs.Payloads.{IsAsLong}
 use Rattle.domain_model.specs.Given.{Given, given, with_given}
 use Rattle.domain_model.specs.Radio.{Hearing, message_by_radio, queued, filled, payload_in, heard_given, heard_bytes, heard_where, heard_by, heard}
 use Rattle.domain_model.specs.Turn.{hear}
-use Rattle.domain_model.specs.Good.{GoodProcessor, GoodMachine, GoodHandler, GoodQueues, IsFramed, IsKnown, IsPacket}
+use Rattle.domain_model.specs.Good.{GoodProcessor, GoodMachine, IsKnown, IsPacket}
 use Rattle.domain_model.proofs.ByteLists.{put_bytes}
 use Rattle.domain_model.proofs.BlockLaws.{GoodGiven, given_good, given_gains, given_within}
 use Rattle.domain_model.proofs.PayloadLaws.{payloads_posted, payloads_gained}

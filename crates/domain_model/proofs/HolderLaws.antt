@@ -1,12 +1,9 @@
 -- Each block of the heap has one holder.
-use Rattle.std.proofs.Common.{◌≡◌, ◌∙◌, ℕ, ◌<◌, inl, inr, true, sym, ap, arith, Some}
+use Rattle.std.proofs.Common.{◌≡◌, ◌∙◌, ℕ, inl, inr, sym, ap, Some}
 use Rattle.std.specs.List.{Contains}
-use Rattle.mote_layout.specs.Memory.{kernel, block_count}
-use Rattle.mote_layout.specs.Blocks.{AreFree}
 use Rattle.mote_layout.specs.declared.segment.Segment.{Segment}
 use Rattle.mote_layout.proofs.Entries.{kernel_of, kernel_of-domain, kernel_of-kernel, kernel_entries-starting_at}
 use Rattle.domain_model.specs.State.{KernelState, RunnerState, State}
-use Rattle.domain_model.specs.Modules.{in_use}
 use Rattle.domain_model.specs.Payloads.{namings}
 use Rattle.domain_model.specs.Good.{GoodMachine, IsOwned, Good}
 use Rattle.domain_model.specs.Laws.{LiesIn, HasOneHolder, is_free, is_owned, is_carried, Reaches, here, next, NoBlockIsLost}

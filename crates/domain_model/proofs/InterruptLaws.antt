@@ -1,5 +1,5 @@
 -- A packet that comes leaves all but the queue and a block that was free.
-use Rattle.std.proofs.Common.{◌≡◌, ◌≢◌, ◌⊎◌, ℕ, ◌+◌, ◌-◌, ◌*◌, ◌<◌, ◌≤◌, ◌==◌, ◌++◌, nat_le, nat_lt, inl, inr, List, [], ◌∷◌, length, take, drop, Bool, true, false, refl, sym, ap, ◌∙◌, subst, arith, Option, Some, None, slice_get}
+use Rattle.std.proofs.Common.{◌≡◌, ◌≢◌, ◌⊎◌, ℕ, ◌+◌, ◌-◌, ◌*◌, ◌<◌, ◌≤◌, ◌==◌, ◌++◌, nat_lt, inl, inr, List, length, take, drop, Bool, true, false, refl, sym, ap, ◌∙◌, subst, arith, Option, Some, None, slice_get}
 use Rattle.std.specs.Prelude.{slice_index}
 use Rattle.std.proofs.Math.ListN.{get_or-append}
 use Rattle.std.proofs.lemmas.Bool.{cases_eq, cases_lt, cases_Bool}
@@ -15,9 +15,9 @@ use Rattle.domain_model.specs.declared.event.Packet.{Packet}
 use Rattle.domain_model.specs.declared.line.TraceLine.{TraceLine}
 use Rattle.domain_model.specs.State.{Processor, Message, KernelState, RunnerState, State, with_bytes, with_zeros}
 use Rattle.domain_model.specs.Modules.{is_loaded}
-use Rattle.domain_model.specs.Given.{Given, given_at}
+use Rattle.domain_model.specs.Given.{given_at}
 use Rattle.domain_model.specs.Free.{SameState, with_memory, is_kernel_byte}
-use Rattle.domain_model.specs.Radio.{message_by_radio, heard_given, heard_bytes, heard_where, heard_by, heard}
+use Rattle.domain_model.specs.Radio.{message_by_radio, heard_given, heard_bytes, heard_where, heard_by}
 use Rattle.domain_model.specs.Act.{act}
 use Rattle.domain_model.specs.Turn.{hear, made, Turn}
 use Rattle.domain_model.specs.Good.{Good}

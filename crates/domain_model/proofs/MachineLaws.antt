@@ -260,22 +260,22 @@ purged_good k r row h c =
     let rest = payloads_unnamed row.face.id (handler_ended k).blocks k.queues None ended.blocks ended.payloads in
     let domain = (each_contained (GoodModule r) k.modules row h.modules c).domain in
     record {
-  processor = h.processor;
-  banks = length-set r.banks row.domain [] ∙ h.banks;
-  modules =
-      each_filter (GoodModule r) (GoodModule (emptied r row.domain)) (λ (m : Loaded). not (m.domain == row.domain))
-      (λ m kept g. module_kept r (emptied r row.domain) m (bank_other r row.domain m.domain [] (other_domain m.domain row.domain kept)) g) k.modules h.modules;
-  distinct = distinct_filter (λ (m : Loaded). not (m.domain == row.domain)) k.modules h.distinct;
-  blocks = AreBlocks-without_owner row.domain (unnamed_blocks k row.face.id) rest.blocks;
-  owners =
-      owned_without k.modules row.domain (unnamed_blocks k row.face.id)
-      (owned_unnamed k.modules row.face.id (in_order k.queues) (handler_ended k).blocks ended.owners);
-  queues = queues_without k.modules row k.queues h.distinct c h.queues;
-  payloads =
-      payloads_stay (unnamed_blocks k row.face.id) (without_owner row.domain (unnamed_blocks k row.face.id)) (unnamed row.face.id k.queues) None
-      (without_owner_stays row.domain (unnamed_blocks k row.face.id) (λ e. omega (arith, domain, e))) rest.payloads;
-  handler = (refl, refl);
-}
+      processor = h.processor;
+      banks = length-set r.banks row.domain [] ∙ h.banks;
+      modules =
+          each_filter (GoodModule r) (GoodModule (emptied r row.domain)) (λ (m : Loaded). not (m.domain == row.domain))
+          (λ m kept g. module_kept r (emptied r row.domain) m (bank_other r row.domain m.domain [] (other_domain m.domain row.domain kept)) g) k.modules h.modules;
+      distinct = distinct_filter (λ (m : Loaded). not (m.domain == row.domain)) k.modules h.distinct;
+      blocks = AreBlocks-without_owner row.domain (unnamed_blocks k row.face.id) rest.blocks;
+      owners =
+          owned_without k.modules row.domain (unnamed_blocks k row.face.id)
+          (owned_unnamed k.modules row.face.id (in_order k.queues) (handler_ended k).blocks ended.owners);
+      queues = queues_without k.modules row k.queues h.distinct c h.queues;
+      payloads =
+          payloads_stay (unnamed_blocks k row.face.id) (without_owner row.domain (unnamed_blocks k row.face.id)) (unnamed row.face.id k.queues) None
+          (without_owner_stays row.domain (unnamed_blocks k row.face.id) (λ e. omega (arith, domain, e))) rest.payloads;
+      handler = (refl, refl);
+    }
 
 -- the module of the running domain
 running_purged : (k : KernelState) (r : RunnerState) (domain : ℕ) → GoodMachine k r → in_use k.modules domain ≡ true → GoodMachine (with_none_ending (purged (handler_ended k) (id_at k.modules domain) domain)) (emptied r domain)

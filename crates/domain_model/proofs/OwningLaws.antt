@@ -5,7 +5,7 @@ use Rattle.std.specs.List.{AllByRecursion}
 use Rattle.std.specs.Option.{option_map_or}
 use Rattle.std.proofs.Math.ListN.{get_or-append}
 use Rattle.std.proofs.lemmas.Bool.{cases_Bool, cases_eq, cond-true, cond-false, cond_both, eqb-true, eqb-false, true≢false}
-use Rattle.std.proofs.lemmas.Option.{none-some, same_Some}
+use Rattle.std.proofs.lemmas.Option.{same_Some}
 use Rattle.std.proofs.lemmas.List.{get_or-append_right, get_or-set_other, length-replicate, length-take-le}
 use Rattle.mote_base.specs.Messages.{Lists, list_of, appended, queue_limit}
 use Rattle.mote_layout.specs.Memory.{ram_start, ram_bytes, block_bytes, kernel}
@@ -208,7 +208,7 @@ served_out ss owner size address is =
     let there : served owner size ss ≡ inserted got ss
     = ap (λ (o : Option ℕ). option_map_or (λ block. inserted (segment_for owner size block) ss) o ss) at.place in
     let nobody = λ (a : ℕ) (from : block_address at.block ≤ a) (to : a < block_address (at.block + blocks_for size)) (o : ℕ).
-        not_owned_free at.block (blocks_for size) o a ss at.least.fits.1 from to in
+    not_owned_free at.block (blocks_for size) o a ss at.least.fits.1 from to in
     record {
       from = omega (arith, start);
       to = omega (arith, start, at.least.fits.0);

@@ -1,8 +1,8 @@
 -- The kernel's blocks stay exactly the payloads, each once: what each change of the blocks and of the messages does to them.
-use Rattle.std.proofs.Common.{◌≡◌, ◌≢◌, ℕ, ◌+◌, ◌*◌, ◌<◌, ◌≤◌, ◌∙◌, refl, sym, ap, subst, arith, inl, inr, eqb, cond, not, ◌==◌, ◌&&◌, suc, Bool, true, false, List, [], ◌∷◌, ◌++◌, length, filter, drop, Option, Some, None, IsSomeAnd, eq-eqb, nat_lt, if◌then◌else◌}
+use Rattle.std.proofs.Common.{◌≡◌, ◌≢◌, ℕ, ◌+◌, ◌*◌, ◌≤◌, ◌∙◌, refl, sym, ap, subst, arith, inl, inr, eqb, not, ◌==◌, ◌&&◌, suc, Bool, true, false, List, [], ◌∷◌, ◌++◌, length, filter, drop, Option, Some, None, IsSomeAnd, nat_lt, if◌then◌else◌}
 use Rattle.std.specs.List.{AllByRecursion}
 use Rattle.std.proofs.lemmas.Bool.{cases_Bool, cond-true, cond-false, cond_both, eqb-true, ne_eqb, lt-ltb}
-use Rattle.std.proofs.lemmas.Option.{same_Some, none-some}
+use Rattle.std.proofs.lemmas.Option.{same_Some}
 use Rattle.mote_base.specs.Messages.{Lists, in_order, appended, front, without_front, names, without_named, unnamed}
 use Rattle.mote_layout.specs.Memory.{kernel, block_bytes}
 use Rattle.mote_layout.specs.Blocks.{AreBlocks, starting_at, without, without_owner}
@@ -11,7 +11,7 @@ use Rattle.mote_layout.specs.declared.segment.Segment.{Segment}
 use Rattle.mote_layout.proofs.BlockLists.{AreBlocks-without}
 use Rattle.mote_layout.proofs.Entries.{naming-same, without_loses}
 use Rattle.domain_model.specs.State.{Message}
-use Rattle.domain_model.specs.Payloads.{load_of, without_load, without_payloads, naming_of, naming_in, namings, IsHeld, HasHeld, HoldsPayloads}
+use Rattle.domain_model.specs.Payloads.{load_of, without_load, without_payloads, naming_of, naming_in, IsHeld, HasHeld, HoldsPayloads}
 use Rattle.domain_model.proofs.Kept.{each_weaker, each_filter, each_push, each_either}
 
 -- What is held stays so where each parcel stays one.
@@ -33,7 +33,7 @@ payloads_stay old new q hand stays h = record {
 
 -- One more message waits.
 
-naming_in-append : (b : ℕ) (xs ys : List Message) → naming_in b (xs ++ ys) ≡ naming_in b xs + naming_in b ys
+pub naming_in-append : (b : ℕ) (xs ys : List Message) → naming_in b (xs ++ ys) ≡ naming_in b xs + naming_in b ys
 naming_in-append b [] ys = omega arith
 naming_in-append b (x ∷ xs) ys = omega (arith, naming_in-append b xs ys)
 
@@ -89,10 +89,10 @@ payloads_handed ss q old new before after h =
     }
 
 -- The kernel's blocks lose so many of each: what is still held beside them stays held.
-record Loses (lost : ℕ → ℕ) (old new : List Segment) : Type 0 where
-  blocks : AreBlocks new
-  entries : (b : ℕ) → kernel_entries b new + lost b ≡ kernel_entries b old
-  stay : (o : Option Payload) → ((b : ℕ) → naming_of b o ≤ kernel_entries b new) → IsHeld old o → IsHeld new o
+pub record Loses (lost : ℕ → ℕ) (old new : List Segment) : Type 0 where
+  pub blocks : AreBlocks new
+  pub entries : (b : ℕ) → kernel_entries b new + lost b ≡ kernel_entries b old
+  pub stay : (o : Option Payload) → ((b : ℕ) → naming_of b o ≤ kernel_entries b new) → IsHeld old o → IsHeld new o
 
 other_block : (p q : Payload) (new : List Segment) → kernel_entries p.block new ≡ 0 → naming p.block q ≤ kernel_entries p.block new → q.block ≢ p.block
 other_block p q new none few e = let one = naming-same p.block q e in omega (arith, one, none, few)
@@ -104,11 +104,11 @@ loses_one p old new blocks lost = record { blocks = blocks; entries = lost.entri
     stay None few h = tt
     stay (Some q) few h = lost.parcels q (other_block p q new lost.alone (few p.block)) h
 
-loses_load : (o : Option Payload) (ss : List Segment) → AreBlocks ss → IsHeld ss o → Loses (λ b. naming_of b o) ss (without_load o ss)
+pub loses_load : (o : Option Payload) (ss : List Segment) → AreBlocks ss → IsHeld ss o → Loses (λ b. naming_of b o) ss (without_load o ss)
 loses_load None ss blocks h = record { blocks = blocks; entries = λ b. omega arith; stay = λ r few k. k }
 loses_load (Some p) ss blocks h = loses_one p ss (without p.block ss) (AreBlocks-without p.block ss blocks) (without_loses ss p blocks h)
 
-each_stays : (lost : ℕ → ℕ) (old new : List Segment) → Loses lost old new → (ms : List Message) → ((b : ℕ) → naming_in b ms ≤ kernel_entries b new) → AllByRecursion (HasHeld old) ms → AllByRecursion (HasHeld new) ms
+pub each_stays : (lost : ℕ → ℕ) (old new : List Segment) → Loses lost old new → (ms : List Message) → ((b : ℕ) → naming_in b ms ≤ kernel_entries b new) → AllByRecursion (HasHeld old) ms → AllByRecursion (HasHeld new) ms
 each_stays lost old new loses [] few h = tt
 each_stays lost old new loses (m ∷ ms) few h =
     (loses.stay m.load (λ b. omega (arith, few b)) h.0, each_stays lost old new loses ms (λ b. omega (arith, few b)) h.1)

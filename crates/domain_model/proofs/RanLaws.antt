@@ -1,5 +1,5 @@
 -- The machine itself writes no line of an instruction that a runner runs, and nothing but lines hangs on such lines.
-use Rattle.std.proofs.Common.{Ok, Err, ◌≡◌, ℕ, ◌==◌, nat_lt, nat_le, List, [], ◌∷◌, ◌++◌, length, Bool, true, false, not, refl, sym, ap, subst, ◌∙◌, Option, Some, None, slice_get}
+use Rattle.std.proofs.Common.{Ok, Err, ◌≡◌, ℕ, ◌==◌, nat_lt, nat_le, List, [], ◌∷◌, ◌++◌, length, Bool, true, false, not, refl, ap, subst, ◌∙◌, Option, Some, None, slice_get}
 use Rattle.std.proofs.lemmas.List.Elements.{filter-append}
 use Rattle.mote_base.specs.Messages.{front, queue_limit}
 use Rattle.avr_isa.specs.declared.instruction.Instr.{Instr}
@@ -26,7 +26,7 @@ use Rattle.domain_model.specs.declared.line.TraceLine.TheVariants as line
 use Rattle.domain_model.specs.Prepared.{Module, Prep}
 use Rattle.domain_model.specs.State.{Message, Loaded, KernelState, RunnerState, State, pair}
 use Rattle.domain_model.specs.Units.{Service, Malloc, Free, ChangeOwn, PostShort, PostLong, Take, Say, Clock, Send, MyId, service_of}
-use Rattle.domain_model.specs.Modules.{free_domain, id_at, is_loaded, module_named}
+use Rattle.domain_model.specs.Modules.{free_domain, is_loaded, module_named}
 use Rattle.domain_model.specs.Given.{Given, given}
 use Rattle.domain_model.specs.Payloads.{holds_bytes}
 use Rattle.domain_model.specs.Dump.{dumped}
@@ -34,7 +34,7 @@ use Rattle.domain_model.specs.Radio.{heard_given, heard_bytes, heard_where, hear
 use Rattle.domain_model.specs.declared.event.Packet.{Packet}
 use Rattle.domain_model.specs.Calls.{Serving, change_held, free_held, long_message_of, long_held, send_within, send_held, serve}
 use Rattle.domain_model.specs.Act.{Acted, act, act_running, act_at, act_effect, act_under, act_group, act_reserve, act_skip, act_branch, act_return, act_served, act_call, passes, taken, group_sp, has_room, may_store, store_address, next_unit}
-use Rattle.domain_model.specs.Turn.{Moved, came, load_image, load_prepared, load_new, load_in, load_given, unload_module, deliver, dispatch, hear, close, close_module, faulted, settled, purged, handler_ended, emptied, made, state_block, watchdog}
+use Rattle.domain_model.specs.Turn.{Moved, came, load_image, load_prepared, load_new, load_in, load_given, unload_module, deliver, dispatch, hear, close, close_module, faulted, settled, made, state_block, watchdog}
 use Rattle.domain_model.specs.Runners.{is_ran, without_ran, without_ran_lines}
 use Rattle.domain_model.proofs.DumpLaws.{each_dumped, filter_all}
 

@@ -1,12 +1,12 @@
 -- Segments that a list of blocks contains, and what is left of them where payloads are freed.
-use Rattle.std.proofs.Common.{◌≡◌, ◌≢◌, ℕ, suc, ◌+◌, ◌*◌, ◌<◌, ◌≤◌, ◌⊎◌, ◌==◌, ◌&&◌, ◌∙◌, eqb, not, inl, inr, List, [], ◌∷◌, length, filter, Bool, true, false, refl, sym, ap, subst, arith, eq-eqb, Option, Some, None, IsSomeAnd, if◌then◌else◌}
+use Rattle.std.proofs.Common.{◌≡◌, ◌≢◌, ℕ, ◌+◌, ◌*◌, ◌<◌, ◌≤◌, ◌⊎◌, ◌==◌, ◌&&◌, ◌∙◌, eqb, not, inl, inr, List, [], ◌∷◌, length, filter, Bool, refl, sym, ap, subst, arith, eq-eqb, Option, Some, None, IsSomeAnd, if◌then◌else◌}
 use Rattle.std.specs.List.{AllByRecursion, Contains}
 use Rattle.std.proofs.lemmas.Bool.{cases_Bool, cases_lt, cond-true, cond-false, cond_both, and_from, ne_eqb, eqb-true}
 use Rattle.std.proofs.lemmas.Option.{none-some, same_Some}
 use Rattle.mote_base.specs.Messages.{names}
 use Rattle.mote_layout.specs.Memory.{kernel, block_bytes}
-use Rattle.mote_layout.specs.Blocks.{AreBlocksFrom, AreBlocks, AreFree, starting_at, without}
-use Rattle.mote_layout.specs.Parcels.{Payload, IsParcelOf, kernel_entries}
+use Rattle.mote_layout.specs.Blocks.{AreBlocksFrom, AreBlocks, AreFree, starting_at}
+use Rattle.mote_layout.specs.Parcels.{Payload, kernel_entries}
 use Rattle.mote_layout.specs.declared.segment.Segment.{Segment}
 use Rattle.domain_model.specs.State.{Message}
 use Rattle.domain_model.specs.Payloads.{without_load, without_payloads, IsHeld, HasHeld}
@@ -153,10 +153,13 @@ free_or_lies ss block fit =
     elim (free_or_covered 0 block ss fit) [
       | inl free ↦ inl free
       | inr there ↦
-          inr (there.segment, record {
-            contained = there.contained;
-            from = there.from;
-            to = there.to;
-            alone = λ t c begin end. lies_alone 0 block ss there.segment t fit there.contained there.from there.to c begin end;
-          })
+          inr (
+            there.segment,
+            record {
+              contained = there.contained;
+              from = there.from;
+              to = there.to;
+              alone = λ t c begin end. lies_alone 0 block ss there.segment t fit there.contained there.from there.to c begin end;
+            },
+          )
     ]

@@ -1,5 +1,5 @@
 -- The times of what is still to come.
-use Rattle.std.proofs.Common.{◌≡◌, ℕ, ◌<◌, ◌≤◌, ◌^◌, nat_le, Bool, true, false, refl, sym, ◌∙◌, List, [], ◌∷◌, map, ap, subst, arith, Option, Some, None, slice_get, drop}
+use Rattle.std.proofs.Common.{◌≡◌, ℕ, ◌<◌, ◌≤◌, ◌^◌, nat_le, true, false, refl, sym, List, [], ◌∷◌, subst, arith, Option, Some, None, slice_get, drop}
 use Rattle.std.proofs.lemmas.Bool.{leb-false, lt-leb, true≢false}
 use Rattle.std.proofs.lemmas.Option.{none-some, same_Some}
 use Rattle.domain_model.specs.declared.event.LoaderEvent.{LoaderEvent}

@@ -18,7 +18,7 @@ use Rattle.domain_model.specs.Given.{Given}
 use Rattle.domain_model.specs.Act.{Acted, act}
 use Rattle.domain_model.specs.Free.{SameBut, SameKernel, SameState, UnitStep, with_memory, is_kernel_byte, unit_free}
 use Rattle.domain_model.specs.Turn.{state_block, came, hear, unload_module, deliver, dispatch, watchdog, load_image, load_prepared, load_new, load_in, load_given, settled, choice, made, May, Leaves, Turn}
-use Rattle.domain_model.specs.Good.{GoodMachine, IsPacket, ArePackets, Good}
+use Rattle.domain_model.specs.Good.{GoodMachine, ArePackets, Good}
 use Rattle.domain_model.specs.Facts.{Facts}
 use Rattle.domain_model.proofs.TimeLaws.{events_drop, packets_drop, next_below}
 use Rattle.domain_model.proofs.ChoiceLaws.{choice_facts}

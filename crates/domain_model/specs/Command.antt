@@ -7,7 +7,7 @@ use Rattle.mote_layout.specs.Limits.{image_limit, images_limit, script_limit, un
 use Rattle.domain_model.specs.declared.request.Kind.{Kind}
 use Rattle.domain_model.specs.declared.request.Kind.TheVariants as kinds
 use Rattle.domain_model.specs.declared.request.Tool.{Tool}
-use Rattle.domain_model.specs.declared.request.Tool.TheVariants.{Listing, Upgrade, Seal, Verdict, Assembly, Source}
+use Rattle.domain_model.specs.declared.request.Tool.TheVariants.{Listing, Upgrade, Seal, Rewriting, Verdict, Assembly, Source}
 use Rattle.domain_model.specs.declared.request.Setting.{Setting}
 use Rattle.domain_model.specs.declared.request.Setting.TheVariants.{Units, Handler}
 use Rattle.domain_model.specs.declared.request.Place.{Place}
@@ -46,9 +46,10 @@ tool_of verb =
     then Some Listing
     else (if bytes_eq verb (codes "upgrade") then Some Upgrade
     else (if bytes_eq verb (codes "seal") then Some Seal
+    else (if bytes_eq verb (codes "rewrite") then Some Rewriting
     else (if bytes_eq verb (codes "verify") then Some Verdict
     else (if bytes_eq verb (codes "asm") then Some Assembly
-    else (if bytes_eq verb (codes "source") then Some Source else None)))))
+    else (if bytes_eq verb (codes "source") then Some Source else None))))))
 
 abbrev pub without_limits : Option Tool → Option ℕ → Option ℕ → Option Kind
 without_limits (Some tool) None None = Some (kinds.Tool tool)

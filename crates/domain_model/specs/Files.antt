@@ -1,9 +1,13 @@
 -- What a file is that came to a module, to a refusal or to neither, in the words of images and of code.
 use Rattle.std.specs.Prelude.{◌≡◌, ◌⊎◌, ℕ, ◌<◌, List, [], ◌∷◌, length, slice_index, true, false, Option, Some, None, Ok, Err, ⊤}
 use Rattle.std.specs.List.{AllByRecursion}
+use Rattle.unit_code.specs.declared.unit.Unit.{Unit}
 use Rattle.unit_code.specs.declared.error.CodeError.{CodeError}
 use Rattle.unit_code.specs.Law.{IsFirst, NoneHolds}
+use Rattle.unit_code.specs.Spelling.{Spells}
 use Rattle.unit_code.specs.Units.{places_of, units_of}
+use Rattle.harbor_verify.specs.declared.error.VerifyError.{VerifyError}
+use Rattle.harbor_verify.specs.Law.{IsFirst as IsFirstVerdict}
 use Rattle.module_image.specs.Contents.{Contents, first_version, second_version}
 use Rattle.module_image.specs.Spelling.{Image}
 use Rattle.domain_model.specs.declared.refusal.Refusal.TheVariants as why
@@ -17,17 +21,34 @@ BeginAt places [] (number ∷ numbers) = ⊥
 BeginAt places (word ∷ words) [] = ⊥
 BeginAt places (word ∷ words) (number ∷ numbers) = (number < length places) × (slice_index places number ≡ word) × BeginAt places words numbers
 
--- The module of an image of the first version that no rewriter made and whose code no condition refuses: it shows the image's face and asks
--- for its state, its units are those of the code and can run, its handler begins at the handler word, and each function
--- that it provides at that function's word.
-pub record IsModuleOf (m : Module) (c : Contents) : Type 0 where
+-- The code of an image that no rewriter made is refused by no condition; these are its units, and the units with these numbers begin at
+-- the words of the marks.
+pub record AreReadFrom (units : List Unit) (numbers : List ℕ) (c : Contents) : Type 0 where
   pub original : c.rewritten ≡ false
-  pub first : c.version ≡ first_version
   pub accepted : NoneHolds c.code (marks_of c) c.sealed
+  pub are : units ≡ units_of c.code c.sealed
+  pub entered : BeginAt (places_of c.code) (marks_of c) numbers
+
+-- The words of a rewriter's image spell these units and no others, and the templates of the units with these numbers start at the marks.
+pub record AreSpelledIn (units : List Unit) (numbers : List ℕ) (c : Contents) : Type 0 where
+  pub rewritten : c.rewritten ≡ true
+  pub starts : List ℕ
+  pub spells : Spells c.code (marks_of c) c.sealed units starts
+  pub only : (others : List Unit) (places : List ℕ) → Spells c.code (marks_of c) c.sealed others places → (units ≡ others) × (starts ≡ places)
+  pub entered : BeginAt starts (marks_of c) numbers
+
+-- The units of an image's code, and the numbers of those at which it is entered.
+abbrev pub AreUnitsOf : List Unit → List ℕ → Contents → Type 0
+AreUnitsOf units numbers c = AreReadFrom units numbers c ⊎ AreSpelledIn units numbers c
+
+-- The module of an image of the first version whose code is not refused: it shows the image's face and asks for its state,
+-- its units are those of the code and can run, its handler begins at the handler word, and each function that it provides at that
+-- function's word.
+pub record IsModuleOf (m : Module) (c : Contents) : Type 0 where
+  pub first : c.version ≡ first_version
+  pub code : AreUnitsOf m.units (m.handler ∷ m.entries) c
   pub face : m.face ≡ c.face
   pub state_size : m.state_size ≡ c.state_size
-  pub units : m.units ≡ units_of c.code c.sealed
-  pub entered : BeginAt (places_of c.code) (marks_of c) (m.handler ∷ m.entries)
   pub built : are_built m.units ≡ true
 
 -- The first condition that refuses the code of an image of the first version that no rewriter made.
@@ -36,11 +57,17 @@ pub record IsRefusalOf (e : CodeError) (c : Contents) : Type 0 where
   pub version : c.version ≡ first_version
   pub first : IsFirst c.code (marks_of c) c.sealed e
 
--- A rewriter made the image, or it is of the second version, or no condition refuses its code, and a unit of it can't run.
+-- The first condition that stands against the words of a rewriter's image of the first version.
+pub record IsVerdictOn (e : VerifyError) (c : Contents) : Type 0 where
+  pub rewritten : c.rewritten ≡ true
+  pub version : c.version ≡ first_version
+  pub first : IsFirstVerdict c.code (marks_of c) c.sealed e
+
+-- The image is of the second version, or its code is not refused, and a unit of it can't run.
 abbrev pub IsNotBuilt : Contents → Type 0
 IsNotBuilt c =
-    (c.rewritten ≡ true) ⊎ (c.version ≡ second_version)
-    ⊎ (NoneHolds c.code (marks_of c) c.sealed × (are_built (units_of c.code c.sealed) ≡ false))
+    (c.version ≡ second_version)
+    ⊎ ((units : List Unit) × (numbers : List ℕ) × AreUnitsOf units numbers c × (are_built units ≡ false))
 
 -- The file is an image, of whose contents this holds.
 pub record IsImageWith (P : Contents → Type 0) (file : List ℕ) : Type 0 where
@@ -52,6 +79,7 @@ abbrev pub ComesTo : Option Prep → List ℕ → Type 0
 ComesTo (Some (Ok m)) file = IsImageWith (IsModuleOf m) file
 ComesTo (Some (Err (why.Image e))) file = (c : Contents) → ¬ Image file c
 ComesTo (Some (Err (why.Code e))) file = IsImageWith (IsRefusalOf e) file
+ComesTo (Some (Err (why.Verify e))) file = IsImageWith (IsVerdictOn e) file
 ComesTo None file = IsImageWith IsNotBuilt file
 
 -- The law of files: each is what `prepared` makes of it.

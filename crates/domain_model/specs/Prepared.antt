@@ -1,17 +1,23 @@
 -- What the file of an image holds.
-use Rattle.std.specs.Prelude.{ℕ, ◌==◌, ◌||◌, List, ◌∷◌, drop, map, slice_index, Bool, true, false, Option, Some, None, unwrap_or, Result, Ok, Err, if◌then◌else◌}
+use Rattle.std.specs.Prelude.{ℕ, ◌==◌, List, ◌∷◌, drop, map, slice_index, Bool, true, false, Option, Some, None, unwrap_or, Result, Ok, Err, if◌then◌else◌}
+use Rattle.std.specs.List.{filter_map}
 use Rattle.unit_code.specs.declared.unit.Unit.{Unit}
 use Rattle.unit_code.specs.declared.error.CodeError.{CodeError}
 use Rattle.unit_code.specs.Errors.{error_number, error_word, error_kind}
 use Rattle.unit_code.specs.Listing.{Listing}
+use Rattle.unit_code.specs.Targets.{number_of as unit_number}
 use Rattle.unit_code.specs.Units.{refusal, listed}
+use Rattle.harbor_verify.specs.declared.error.VerifyError.{VerifyError}
+use Rattle.harbor_verify.specs.Law.{error_word as verify_word, order}
+use Rattle.harbor_verify.specs.Verdict.{refusal as verify_refusal, units_in}
+use Rattle.harbor_verify.specs.Walks.{starts_in}
 use Rattle.module_image.specs.declared.face.Face.{Face}
 use Rattle.module_image.specs.declared.error.ImageError.{ImageError}
 use Rattle.module_image.specs.Contents.{Contents, second_version}
 use Rattle.module_image.specs.Reading.{image_of}
 use Rattle.module_image.specs.Refusal.{number_of, value_of}
 use Rattle.domain_model.specs.declared.refusal.Refusal.{Refusal}
-use Rattle.domain_model.specs.declared.refusal.Refusal.TheVariants.{Image, Code}
+use Rattle.domain_model.specs.declared.refusal.Refusal.TheVariants.{Image, Code, Verify}
 use Rattle.domain_model.specs.Units.{are_built}
 
 -- A module that may be loaded: what it shows to others, the bytes of state that it asks for, the unit at which a
@@ -28,18 +34,22 @@ pub record Module : Type 0 where
 abbrev pub refusal_number : Refusal → ℕ
 refusal_number (Image e) = 1
 refusal_number (Code e) = 2
+refusal_number (Verify e) = 3
 
 abbrev pub refusal_kind : Refusal → ℕ
 refusal_kind (Image e) = number_of e
 refusal_kind (Code e) = unwrap_or (error_number e) 0
+refusal_kind (Verify e) = order e
 
 abbrev pub refusal_value : Refusal → ℕ
 refusal_value (Image e) = value_of e
 refusal_value (Code e) = error_word e
+refusal_value (Verify e) = verify_word e
 
 abbrev pub refusal_detail : Refusal → ℕ
 refusal_detail (Image e) = 0
 refusal_detail (Code e) = error_kind e
+refusal_detail (Verify e) = 0
 
 -- The file holds a module, or it is refused at each load.
 abbrev pub Prep : Type 0
@@ -67,13 +77,31 @@ abbrev pub prepared_code : Contents → Option CodeError → Option Prep
 prepared_code c (Some e) = Some (Err (Code e))
 prepared_code c None = prepared_units c (listed c.code (marks_of c) c.sealed)
 
--- A rewriter's image and one of the second version are not built.
+-- What is told of rewritten words that are not refused: the units that they spell, where each unit's template starts, and the
+-- numbers of the units whose templates start at the marks.
+unfoldable pub spelled : List ℕ → List ℕ → Listing
+spelled words marks = record {
+  units = units_in words;
+  places = starts_in words;
+  marks = filter_map (unit_number (starts_in words)) marks;
+}
+
+abbrev pub prepared_words : Contents → Option VerifyError → Option Prep
+prepared_words c (Some e) = Some (Err (Verify e))
+prepared_words c None = prepared_units c (spelled c.code (marks_of c))
+
+-- An image of the first version, which a rewriter made or none did.
+abbrev pub prepared_first : Bool → Contents → Option Prep
+prepared_first true c = prepared_words c (verify_refusal c.code (marks_of c) c.sealed)
+prepared_first false c = prepared_code c (refusal c.code (marks_of c) c.sealed)
+
+-- An image of the second version is not built.
 abbrev pub is_unbuilt : Contents → Bool
-is_unbuilt c = c.rewritten || c.version == second_version
+is_unbuilt c = c.version == second_version
 
 abbrev pub prepared_contents : Bool → Contents → Option Prep
 prepared_contents true c = None
-prepared_contents false c = prepared_code c (refusal c.code (marks_of c) c.sealed)
+prepared_contents false c = prepared_first c.rewritten c
 
 abbrev pub prepared_image : Result Contents ImageError → Option Prep
 prepared_image (Err e) = Some (Err (Image e))

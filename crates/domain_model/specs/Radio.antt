@@ -1,5 +1,5 @@
 -- Packets that come by radio.
-use Rattle.std.specs.Prelude.{ℕ, ◌-◌, ◌==◌, nat_lt, List, [], ◌∷◌, length, Bool, true, false, Option, Some, None}
+use Rattle.std.specs.Prelude.{◌-◌, ◌==◌, nat_lt, List, [], ◌∷◌, length, Bool, true, false, Option, Some, None}
 use Rattle.mote_base.specs.Messages.{appended, queue_limit}
 use Rattle.mote_layout.specs.Memory.{ram_start, kernel}
 use Rattle.mote_layout.specs.Blocks.{block_of}

@@ -54,9 +54,10 @@ pub fn every_good_state_runs_to_an_end()
     ensures end { RunsEnd }
 {}
 
-/// Law: a file that came to a module is an image that no rewriter made, whose code no condition refuses, and the module
-/// has its face, its units, and the units that begin at its words; a file that was refused is no image, or the refusal is
-/// the first condition that its code meets; a file that came to neither is not built.
+/// Law: a file that came to a module is an image whose code no condition refuses, and the module has its face, its units, and
+/// the units that begin at its words. The units of a rewriter's image are the one list that its words spell. A file that was
+/// refused is no image, or the refusal is the first condition that its code or its words meet; a file that came to neither is not
+/// built.
 pub fn files_are_as_prepared()
     ensures { FilesAreAsPrepared }
 {}

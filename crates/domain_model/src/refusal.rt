@@ -2,6 +2,7 @@
 ghost use Rattle.std.specs.Prelude.{◌≡◌};
 ghost use Rattle.domain_model.specs.Prepared.{refusal_detail, refusal_kind, refusal_number, refusal_value};
 
+use harbor_verify::VerifyError;
 use module_image::ImageError;
 use unit_code::CodeError;
 
@@ -12,6 +13,8 @@ pub enum Refusal {
     Image(ImageError),
     /// Its code has no units. It is never for want of memory.
     Code(CodeError),
+    /// It is a rewriter's, and its words spell no units.
+    Verify(VerifyError),
 }
 
 impl Refusal {
@@ -22,6 +25,7 @@ impl Refusal {
         match self {
             Refusal::Image(_) => 1,
             Refusal::Code(_) => 2,
+            Refusal::Verify(_) => 3,
         }
     }
 
@@ -32,6 +36,7 @@ impl Refusal {
         match self {
             Refusal::Image(error) => error.number(),
             Refusal::Code(error) => error.number().unwrap_or(0),
+            Refusal::Verify(error) => error.number(),
         }
     }
 
@@ -42,6 +47,7 @@ impl Refusal {
         match self {
             Refusal::Image(error) => error.value(),
             Refusal::Code(error) => u32::from(error.word()),
+            Refusal::Verify(error) => u32::from(error.word()),
         }
     }
 
@@ -50,7 +56,7 @@ impl Refusal {
         ensures { result ≡ refusal_detail self.now }
     {
         match self {
-            Refusal::Image(_) => 0,
+            Refusal::Image(_) | Refusal::Verify(_) => 0,
             Refusal::Code(error) => error.kind(),
         }
     }

@@ -19,6 +19,8 @@ pub enum Tool {
     Upgrade,
     /// The image, sealed.
     Seal,
+    /// The image, rewritten.
+    Rewriting,
     /// The verdict on the words of a rewritten image.
     Verdict,
     /// The image of a module's text.

@@ -8,7 +8,7 @@ use Rattle.domain_model.specs.declared.script.Event.{Event}
 use Rattle.domain_model.specs.declared.script.What.{What}
 use Rattle.domain_model.specs.declared.script.What.TheVariants as what
 use Rattle.domain_model.specs.Bytes.{AreBytes}
-use Rattle.domain_model.specs.Good.{AreTimesFrom, AreTimes, IsPacket, ArePackets}
+use Rattle.domain_model.specs.Good.{AreTimesFrom, AreTimes, ArePackets}
 use Rattle.domain_model.specs.Events.{at_time, onto_events, loader_events, event_times, packet_at, onto_packets, packets_in, packet_times}
 use Rattle.event_script.specs.Numbers.{last_time}
 use Rattle.event_script.specs.Refusals.{refusal_of, events_of}

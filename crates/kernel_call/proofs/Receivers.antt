@@ -1,7 +1,9 @@
 -- Receivers stay loaded.
-use Rattle.std.proofs.Common.{◌≡◌, ◌≢◌, ◌∙◌, sym, subst, ◌==◌, ℕ, List, [], ◌∷◌, ◌++◌, not, true}
+use Rattle.std.proofs.Common.{◌≡◌, ◌≢◌, ◌∙◌, sym, subst, ◌==◌, ℕ, List, [], ◌∷◌, ◌++◌, not, true, Some}
 use Rattle.std.proofs.lemmas.Bool.{eqb-false, not-true, or_parts}
-use Rattle.mote_base.specs.Messages.{names, without_named}
+use Rattle.std.specs.Option.{option_map}
+use Rattle.std.proofs.lemmas.Option.{none-some, same_Some}
+use Rattle.mote_base.specs.Messages.{front, names, without_named}
 use Rattle.domain_model.specs.State.{Loaded, Message}
 use Rattle.domain_model.specs.Modules.{id_at, in_use, is_loaded, without_domain}
 use Rattle.domain_model.proofs.Kept.{each_filter, each_weaker}
@@ -27,3 +29,9 @@ received_rest modules domain messages seated used are =
     stays f m other h =
         subst (λ (d : ℕ). is_loaded (without_domain d modules) m.to ≡ true) f.domain_of
         (is_loaded_without modules f.row m.to seated.distinct f.contained (λ e. other (e ∙ sym (found_id modules domain f))) h)
+
+-- The first message's receiver is loaded.
+pub front_received : (modules : List Loaded) (high low : List Message) (to : ℕ) → AreReceived modules high → AreReceived modules low → Some to ≡ option_map (λ (m : Message). m.to) (front (record { high = high; low = low })) → is_loaded modules to ≡ true
+front_received modules [] [] to h l is = absurd (none-some to (sym is))
+front_received modules [] (m ∷ ms) to h l is = subst (λ (id : ℕ). is_loaded modules id ≡ true) (sym (same_Some to m.to is)) l.0
+front_received modules (m ∷ ms) low to h l is = subst (λ (id : ℕ). is_loaded modules id ≡ true) (sym (same_Some to m.to is)) h.0

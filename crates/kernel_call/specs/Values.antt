@@ -1,6 +1,7 @@
 -- What the kernel's parts leave.
-use Rattle.std.specs.Prelude.{ℕ, ◌++◌, ◌∷◌, [], List, drop, Option, Some, None}
+use Rattle.std.specs.Prelude.{ℕ, ◌++◌, ◌∷◌, [], ◌==◌, List, drop, Option, Some, None, if◌then◌else◌}
 use Rattle.mote_layout.specs.Memory.{message_frame_bytes, stack_top}
+use Rattle.mote_layout.specs.declared.segment.Segment.{Segment}
 use Rattle.domain_model.specs.declared.handler.Running.{Running}
 use Rattle.domain_model.specs.State.{KernelState, Processor, Message, frame_of}
 use Rattle.domain_model.specs.Given.{Given}
@@ -29,3 +30,13 @@ first_running domain = record { domain = domain; base = stack_top; bound = stack
 abbrev pub packet_line : ℕ → Option Why → ℕ → ℕ → List TraceLine
 packet_line time None to sort = line.Queued time to sort ∷ []
 packet_line time (Some why) to sort = line.Dropped time why to sort ∷ []
+
+-- a segment, where it begins with a block
+abbrev pub begun_by : ℕ → Option Segment → Option Segment
+begun_by block None = None
+begun_by block (Some s) = if s.first == block then Some s else None
+
+-- the segment, as a list
+abbrev pub at_most_one : Option Segment → List Segment
+at_most_one None = []
+at_most_one (Some s) = s ∷ []

@@ -1,11 +1,12 @@
 //! What a dump prints.
-ghost use Rattle.std.specs.Prelude.{◌≡◌, ◌≤◌, ◌<◌, ◌+◌, ◌++◌, ◌∷◌, [], ℕ, length, map, option_map};
-ghost use Rattle.mote_base.specs.Messages.{AreWithinLimit, list_of};
+ghost use Rattle.std.specs.Prelude.{◌≡◌, ◌≤◌, ◌<◌, ◌+◌, ◌++◌, ◌∷◌, [], ℕ, length, map, IfSome};
+ghost use Rattle.mote_base.specs.Messages.{list_of, queue_limit};
 ghost use Rattle.mote_layout.specs.Limits.{turn_lines};
 ghost use Rattle.mote_layout.specs.Memory.{block_count, domain_count};
-ghost use Rattle.mote_layout.specs.Blocks.{AreBlocks};
-ghost use Rattle.domain_model.specs.Dump.{block_line, dumped, message_line, modules_dumped, owner_told};
-ghost use Rattle.kernel_call.specs.Sound.{AreSeated};
+ghost use Rattle.mote_layout.specs.Blocks.{AreBlocks, starting_at};
+ghost use Rattle.domain_model.specs.Dump.{block_line, dumped, message_line, module_line, modules_dumped, owner_told};
+ghost use Rattle.domain_model.specs.Modules.{module_at};
+ghost use Rattle.kernel_call.specs.Values.{at_most_one, begun_by};
 
 use crate::frame::address_of;
 use crate::kernel::Kernel;
@@ -39,29 +40,64 @@ fn dump_modules(modules: &Modules, lines: &mut Lines)
     ensures few { length lines.new ≤ length lines.old + domain_count }
 {
     for domain in 0..DOMAINS {
-        if let Some(row) = modules.at(domain) {
-            lines.add(TraceLine::DumpModule {
-                id: row.id,
-                domain,
-                state: row.state,
-            });
-        }
+        tell_module(modules, domain, lines);
+    }
+}
+
+/// The line of the module in a domain, if there is one.
+#[tactic(auto, using(crate::proofs::Dumps::told_row, crate::proofs::Dumps::told_none))]
+fn tell_module(modules: &Modules, domain: u8, lines: &mut Lines)
+    requires { length lines.old < turn_lines }
+    ensures { lines.new ≡ lines.old ++ module_line (module_at modules.now domain) }
+{
+    if let Some(row) = modules.at(domain) {
+        lines.add(TraceLine::DumpModule {
+            id: row.id,
+            domain: row.domain,
+            state: row.state,
+        });
     }
 }
 
 /// The lines of the blocks, at most one for each block of the heap.
-fn dump_blocks(map: &MemoryMap, modules: &Modules, lines: &mut Lines)
-    requires blocks { AreBlocks map.now }
+fn dump_blocks(blocks: &MemoryMap, modules: &Modules, lines: &mut Lines)
+    requires sorted { AreBlocks blocks.now }
     requires room { length lines.old + block_count ≤ turn_lines }
-    ensures lines { lines.new ≡ lines.old ++ map (block_line modules.now) map.now }
+    ensures lines { lines.new ≡ lines.old ++ map (block_line modules.now) blocks.now }
     ensures few { length lines.new ≤ length lines.old + block_count }
 {
     for block in 0..BLOCKS {
-        if let Some(segment) = map.segment_at(block_address(block)) {
-            if segment.first == block {
-                lines.add(block_line(&segment, modules));
-            }
-        }
+        tell_block(blocks, block, modules, lines);
+    }
+}
+
+/// The line of the segment that begins with a block, if there is one.
+fn tell_block(blocks: &MemoryMap, block: u16, modules: &Modules, lines: &mut Lines)
+    requires block { block < block_count }
+    requires room { length lines.old < turn_lines }
+    ensures { lines.new ≡ lines.old ++ map (block_line modules.now) (at_most_one (starting_at blocks.now block)) }
+{
+    if let Some(segment) = starting_at(blocks, block) {
+        lines.add(block_line(&segment, modules));
+    }
+}
+
+/// The segment that begins with a block.
+fn starting_at(blocks: &MemoryMap, block: u16) -> Option<Segment>
+    requires { block < block_count }
+    ensures at { result ≡ starting_at blocks.now block }
+    ensures within { IfSome result (λ s. s.first + s.count ≤ block_count) }
+{
+    begun_by(block, blocks.segment_at(block_address(block)))
+}
+
+/// The segment, where it begins with a block.
+fn begun_by(block: u16, segment: Option<Segment>) -> Option<Segment>
+    ensures { result ≡ begun_by block segment }
+{
+    match segment {
+        Some(segment) if segment.first == block => Some(segment),
+        _ => None,
     }
 }
 
@@ -88,10 +124,11 @@ fn owner_told(modules: &Modules, owner: u8) -> Option<u8>
     }
 }
 
-/// The lines of the messages in one of the queues.
+/// The lines of the messages in one of the queues, which are as few as a queue holds.
 fn dump_messages(mail: &Mail, high: bool, lines: &mut Lines)
-    requires { length lines.old + length (list_of high mail.now.queues) ≤ turn_lines }
-    ensures { lines.new ≡ lines.old ++ map (message_line high) (list_of high mail.now.queues) }
+    requires { length lines.old + queue_limit ≤ turn_lines }
+    ensures lines { lines.new ≡ lines.old ++ map (message_line high) (list_of high mail.now.queues) }
+    ensures few { length lines.new ≤ length lines.old + queue_limit }
 {
     for place in 0..mail.count(high) {
         let Some(message) = mail.at(high, place) else {

@@ -51,6 +51,13 @@ impl Mail {
         })
     }
 
+    /// The blocks are sorted, and none lie in two segments.
+    fn known(&self)
+        ensures { AreBlocks self.now.blocks }
+    {
+        let _map = self.heap.map();
+    }
+
     /// The map of the blocks.
     pub fn map(&self) -> &MemoryMap
         ensures map { result.now ≡ self.now.blocks }
@@ -221,12 +228,14 @@ impl Mail {
         requires domain { d < domain_count }
         ensures { self.new ≡ cleared id d self.old }
     {
+        self.known();
         self.clear_named(id);
         self.heap.purge(d);
     }
 
     /// Takes out every message from or to a module, with its payload.
     fn clear_named(&mut self, id: u8)
+        requires { AreBlocks self.old.blocks }
         ensures { self.new ≡ record self.old {
           blocks = without_payloads id (in_order self.old.queues) self.old.blocks;
           queues = unnamed id self.old.queues;

@@ -1,12 +1,15 @@
 //! Packets that come by radio.
 ghost use Rattle.std.specs.Prelude.{◌≡◌, ◌<◌, ◌≤◌, ◌++◌, ◌∷◌, [], ℕ, IfNone, IfSome, None, Some, false, length, nat_lt, true, ◌==◌};
-ghost use Rattle.mote_base.specs.Messages.{queue_limit};
+ghost use Rattle.mote_base.specs.Messages.{appended, queue_limit};
 ghost use Rattle.mote_layout.specs.Limits.{payload_limit, turn_lines};
 ghost use Rattle.mote_layout.specs.Memory.{kernel};
-ghost use Rattle.domain_model.specs.Given.{given};
+ghost use Rattle.mote_layout.specs.Blocks.{block_of};
+ghost use Rattle.mote_layout.specs.Requests.{LiesInHeap};
+ghost use Rattle.domain_model.specs.Calls.{carrying};
+ghost use Rattle.domain_model.specs.Given.{given, with_given};
 ghost use Rattle.domain_model.specs.Modules.{is_loaded};
-ghost use Rattle.domain_model.specs.Radio.{heard, heard_bytes, heard_given, message_by_radio};
-ghost use Rattle.kernel_call.specs.Values.{packet, packet_line};
+ghost use Rattle.domain_model.specs.Radio.{heard, heard_bytes, message_by_radio};
+ghost use Rattle.kernel_call.specs.Values.{given_as, packet, packet_line};
 
 use crate::kernel::Kernel;
 use domain_model::{Lines, TraceLine, Why};
@@ -19,22 +22,23 @@ const RADIO: u8 = 255;
 
 impl Kernel {
     /// A packet comes, in a handler too: it becomes a message in the low queue, or is dropped. Its line tells which.
+    #[tactic(auto, using(crate::proofs::Packets::heard_at))]
     pub fn radio(&mut self, to: u8, sort: u8, bytes: &[u8], lines: &mut Lines)
         requires short { length bytes.now ≤ payload_limit }
         requires room { length lines.old < turn_lines }
         ensures kernel { (time : ℕ) → self.new ≡ (heard (packet time to sort bytes.now) self.old).kernel }
         ensures lines { (time : ℕ) → lines.new ≡ lines.old ++ (heard (packet time to sort bytes.now) self.old).lines }
     {
+        let time = self.clock;
         let dropped = self.hear(to, sort, bytes);
-        lines.add(packet_line(self.clock, dropped, to, sort));
+        lines.add(packet_line(time, dropped, to, sort));
     }
 
     /// Takes a packet in, or tells why it is dropped: the first of the reasons that holds.
     fn hear(&mut self, to: u8, sort: u8, bytes: &[u8]) -> Option<Why>
         requires { length bytes.now ≤ payload_limit }
-        ensures kernel { (time : ℕ) → self.new ≡ (heard (packet time to sort bytes.now) self.old).kernel }
-        ensures lines { (time : ℕ) → packet_line self.old.clock result to sort ≡ (heard (packet time to sort bytes.now) self.old).lines }
-        ensures clock { self.new.clock ≡ self.old.clock }
+        ensures kernel { self.new ≡ (heard (packet 0 to sort bytes.now) self.old).kernel }
+        ensures lines { packet_line self.old.clock result to sort ≡ (heard (packet 0 to sort bytes.now) self.old).lines }
     {
         if !self.modules.is_loaded(to) {
             return Some(Why::Module);
@@ -50,46 +54,60 @@ impl Kernel {
         requires short { length bytes.now ≤ payload_limit }
         requires loaded { is_loaded self.old.modules to ≡ true }
         requires room { nat_lt (length self.old.queues.low) queue_limit ≡ true }
-        ensures kernel { (time : ℕ) → self.new ≡ (heard_bytes (length bytes.now == 0) (packet time to sort bytes.now) self.old).kernel }
-        ensures lines { (time : ℕ) → packet_line self.old.clock result to sort
-            ≡ (heard_bytes (length bytes.now == 0) (packet time to sort bytes.now) self.old).lines }
-        ensures clock { self.new.clock ≡ self.old.clock }
+        ensures kernel { self.new ≡ (heard_bytes (length bytes.now == 0) (packet 0 to sort bytes.now) self.old).kernel }
+        ensures lines { packet_line self.old.clock result to sort
+            ≡ (heard_bytes (length bytes.now == 0) (packet 0 to sort bytes.now) self.old).lines }
     {
         let message = message_by_radio(to, sort, bytes);
         if bytes.is_empty() {
-            self.mail.post(message);
+            self.queue(message);
             return None;
         }
-        self.fill(message, bytes)
+        match self.issue(message) {
+            Some(address) => {
+                self.cpu.put(address, bytes);
+                None
+            }
+            None => Some(Why::Room),
+        }
     }
 
-    /// Takes a message in with its bytes, which stand in a new block of the kernel's.
-    fn fill(&mut self, message: Msg<Parcel>, bytes: &[u8]) -> Option<Why>
-        requires short { length bytes.now ≤ payload_limit }
-        requires message { (time : ℕ) → message ≡ message_by_radio (packet time message.to message.sort bytes.now) None }
+    /// Lets a message without a payload wait in the low queue.
+    fn queue(&mut self, message: Msg<Parcel>)
+        requires plain { message.load ≡ None }
+        requires low { message.high ≡ false }
         requires loaded { is_loaded self.old.modules message.to ≡ true }
         requires room { nat_lt (length self.old.queues.low) queue_limit ≡ true }
-        ensures kernel { (time : ℕ) → self.new ≡ (heard_given (given self.old kernel (length bytes.now))
-            (packet time message.to message.sort bytes.now) self.old).kernel }
-        ensures lines { (time : ℕ) → packet_line self.old.clock result message.to message.sort
-            ≡ (heard_given (given self.old kernel (length bytes.now)) (packet time message.to message.sort bytes.now) self.old).lines }
-        ensures clock { self.new.clock ≡ self.old.clock }
+        ensures { self.new ≡ record self.old { queues = appended false message self.old.queues } }
+    {
+        self.mail.post(message);
+    }
+
+    /// Lets a message wait in the low queue with a new cleared block of the kernel's for its bytes, and tells the block's address.
+    fn issue(&mut self, message: Msg<Parcel>) -> Option<u16>
+        requires low { message.high ≡ false }
+        requires loaded { is_loaded self.old.modules message.to ≡ true }
+        requires room { nat_lt (length self.old.queues.low) queue_limit ≡ true }
+        ensures none { IfNone result (given self.old kernel message.len ≡ None) }
+        ensures same { IfNone result (self.new ≡ self.old) }
+        ensures given { IfSome result (λ address. given self.old kernel message.len ≡ Some (given_as self.new address)) }
+        ensures rest { IfSome result (λ address. self.new ≡ record (with_given self.old (given_as self.new address)) {
+          queues = appended false (carrying message (block_of address)) self.old.queues;
+        }) }
+        ensures within { IfSome result (λ address. LiesInHeap message.len address) }
     {
         let len = message.len;
-        let Some(address) = self.mail.issue(message) else {
-            return Some(Why::Room);
-        };
+        let address = self.mail.issue(message)?;
         self.cpu
             .clear(address, BLOCK_BYTES * len.div_ceil(BLOCK_BYTES));
-        self.cpu.put(address, bytes);
-        None
+        Some(address)
     }
 }
 
 /// The message that a packet becomes, without its payload.
 fn message_by_radio(to: u8, sort: u8, bytes: &[u8]) -> Msg<Parcel>
     requires { length bytes.now ≤ payload_limit }
-    ensures { (time : ℕ) → result ≡ message_by_radio (packet time to sort bytes.now) None }
+    ensures { result ≡ message_by_radio (packet 0 to sort bytes.now) None }
 {
     Msg {
         to,

@@ -184,6 +184,7 @@ impl Kernel {
     }
 
     /// The receiver of the first message that waits runs with it in hand, from before its first unit.
+    #[tactic(auto, using(crate::proofs::Receivers::front_received, crate::proofs::Seats::loaded_row))]
     fn take_front(&mut self) -> Option<ModuleRow>
         requires outside { self.old.running ≡ None }
         ensures none { (result ≡ None) ↔ (front self.old.queues ≡ None) }

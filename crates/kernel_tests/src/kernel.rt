@@ -1,4 +1,4 @@
-//! Each kernel call with each answer, the turn calls, and what a kernel tells of itself.
+//! Each kernel call with each answer but those on parcels, the turn calls, and what a kernel tells of itself.
 
 ghost use Rattle.std.specs.Prelude.{◌≡◌, ◌<◌, [], IsSome};
 ghost use Rattle.avr_machine.specs.DataRead.{IsInMemory};
@@ -40,7 +40,7 @@ fn plain(id: u8) -> Face
 }
 
 /// Loads a module that asks for so many bytes of state; None in a handler.
-fn load(k: &mut Kernel, id: u8, state_size: u16) -> Option<Admitted>
+pub fn load(k: &mut Kernel, id: u8, state_size: u16) -> Option<Admitted>
     requires { IsModuleId id }
 {
     if k.running().is_some() {
@@ -50,7 +50,7 @@ fn load(k: &mut Kernel, id: u8, state_size: u16) -> Option<Admitted>
 }
 
 /// Starts the first or the last handler of the module in a domain, where it can be started.
-fn start(k: &mut Kernel, d: u8, last: bool, lines: &mut Lines) -> bool {
+pub fn start(k: &mut Kernel, d: u8, last: bool, lines: &mut Lines) -> bool {
     if k.running().is_some() || k.module_at(d).is_none() {
         return false;
     }
@@ -64,7 +64,7 @@ fn start(k: &mut Kernel, d: u8, last: bool, lines: &mut Lines) -> bool {
 }
 
 /// A kernel call with these words in R25:R24 and in R23:R22, and its answer in R25:R24.
-fn call(
+pub fn call(
     k: &mut Kernel,
     n: u8,
     first: u16,
@@ -87,7 +87,7 @@ fn call(
 }
 
 /// A refused block argument.
-fn refused(address: u16) -> Option<Result<u16, FaultNote>> {
+pub fn refused(address: u16) -> Option<Result<u16, FaultNote>> {
     Some(Err(FaultNote {
         rule: Rule::Owner,
         address,
@@ -95,26 +95,26 @@ fn refused(address: u16) -> Option<Result<u16, FaultNote>> {
 }
 
 /// Puts a byte into the memory.
-fn put(k: &mut Kernel, a: u16, byte: u8)
+pub fn put(k: &mut Kernel, a: u16, byte: u8)
     requires { IsInMemory a }
 {
     k.cpu_mut().set_ram(a, byte);
 }
 
 /// Puts a word into a pair of registers.
-fn set(k: &mut Kernel, d: u8, word: u16)
+pub fn set(k: &mut Kernel, d: u8, word: u16)
     requires { d < 31 }
 {
     k.cpu_mut().set_pair(d, word);
 }
 
 /// What stands at these addresses.
-fn bytes(k: &Kernel, addresses: [u16; 6]) -> [u8; 6] {
+pub fn bytes(k: &Kernel, addresses: [u16; 6]) -> [u8; 6] {
     addresses.map(|a: u16| k.cpu().rd(a))
 }
 
 /// The end of a handler: the id of the module that ends; None outside a handler.
-fn end(k: &mut Kernel) -> Option<Option<u8>> {
+pub fn end(k: &mut Kernel) -> Option<Option<u8>> {
     if k.running().is_none() {
         return None;
     }
@@ -122,7 +122,7 @@ fn end(k: &mut Kernel) -> Option<Option<u8>> {
 }
 
 /// Starts the handler of the next message, and tells its domain; None in a handler.
-fn next(k: &mut Kernel, lines: &mut Lines) -> Option<Option<u8>> {
+pub fn next(k: &mut Kernel, lines: &mut Lines) -> Option<Option<u8>> {
     if k.running().is_some() {
         return None;
     }
@@ -131,7 +131,7 @@ fn next(k: &mut Kernel, lines: &mut Lines) -> Option<Option<u8>> {
 }
 
 /// Takes the module in a domain out, where that can be done.
-fn unload(k: &mut Kernel, d: u8) -> bool {
+pub fn unload(k: &mut Kernel, d: u8) -> bool {
     if k.running().is_some() || k.module_at(d).is_none() {
         return false;
     }
@@ -153,7 +153,7 @@ fn may_store(k: &Kernel, a: u16) -> Option<bool> {
 }
 
 /// Loads module 1, with 8 bytes of state, and module 2, with none, and starts the handler of the first.
-fn in_handler(k: &mut Kernel, lines: &mut Lines) -> bool {
+pub fn in_handler(k: &mut Kernel, lines: &mut Lines) -> bool {
     let first = load(k, 1, 8) == Some(Admitted::Placed(0));
     let second = load(k, 2, 0) == Some(Admitted::Placed(1));
     first && second && start(k, 0, false, lines)

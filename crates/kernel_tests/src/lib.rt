@@ -1,10 +1,12 @@
-//! Tests of the public calls of what the kernel keeps and of the kernel: messages, frames, entries, links, timers, kernel calls.
+//! Tests of the public calls of what the kernel keeps and of the kernel: messages, frames, entries, links, timers, kernel calls, parcels.
 #![tactic(auto)]
 
 #[cfg(test)]
 mod kernel;
 #[cfg(test)]
 mod links;
+#[cfg(test)]
+mod parcels;
 #[cfg(test)]
 mod queues;
 #[cfg(test)]

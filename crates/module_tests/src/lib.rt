@@ -2,9 +2,9 @@
 #![tactic(auto)]
 
 #[cfg(test)]
-mod bundles;
-#[cfg(test)]
 mod assembler;
+#[cfg(test)]
+mod bundles;
 #[cfg(test)]
 mod image;
 #[cfg(test)]

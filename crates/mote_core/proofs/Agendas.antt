@@ -1,10 +1,11 @@
 -- The packets and the loader's events among the lines of a script that were looked at.
 use Rattle.std.specs.Prelude.{◌≡◌, ◌++◌, List, [], ◌∷◌, Option, Some, None}
-use Rattle.std.proofs.Common.{refl, ap, ◌∙◌, length, arith}
+use Rattle.std.proofs.Common.{refl, ap, sym, ◌∙◌, length, arith, ℕ, nat_le, slice_get, false}
+use Rattle.std.proofs.lemmas.Option.{none-some, same_Some}
 use Rattle.domain_model.specs.declared.event.LoaderEvent.{LoaderEvent}
 use Rattle.domain_model.specs.declared.event.Packet.{Packet}
 use Rattle.domain_model.specs.declared.script.Event.{Event}
-use Rattle.domain_model.specs.Events.{loader_event, loader_events, onto_events, onto_packets, packet_of, packets_in}
+use Rattle.domain_model.specs.Events.{is_due, packet_times, loader_event, loader_events, onto_events, onto_packets, packet_of, packets_in}
 
 onto_more : (o : Option LoaderEvent) (es more : List LoaderEvent) → onto_events o (es ++ more) ≡ onto_events o es ++ more
 onto_more None es more = refl
@@ -28,3 +29,12 @@ one_more_packet (x ∷ xs) e =
 pub nothing_left : (lines : List Event) → length lines ≡ 0 → lines ≡ []
 nothing_left [] h = refl
 nothing_left (e ∷ es) h = absurd (omega arith)
+
+-- Whether the first packet has come.
+pub first_is_due : (packets : List Packet) (p : Packet) (now : ℕ) → slice_get packets 0 ≡ Some p → nat_le p.time now ≡ is_due (packet_times packets) now
+first_is_due [] p now first = absurd (none-some p first)
+first_is_due (x ∷ xs) p now first = ap (λ (y : Packet). nat_le y.time now) (sym (same_Some x p first))
+
+pub none_is_due : (packets : List Packet) (now : ℕ) → slice_get packets 0 ≡ None → false ≡ is_due (packet_times packets) now
+none_is_due [] now none = refl
+none_is_due (x ∷ xs) now none = absurd (none-some x (sym none))

@@ -1,14 +1,26 @@
 -- A module whose units are proper and built can be loaded.
-use Rattle.std.proofs.Common.{◌≡◌, ℕ, ◌+◌, ◌<◌, List, [], ◌∷◌, length, drop, slice_index, Bool, true, arith}
-use Rattle.std.specs.List.{AllByRecursion}
+use Rattle.std.proofs.Common.{◌≡◌, ℕ, suc, ◌+◌, ◌^◌, ◌<◌, ◌≤◌, List, [], ◌∷◌, length, drop, slice_index, Bool, true, Option, None, refl, sym, ◌∙◌, ap, subst, arith}
+use Rattle.std.specs.List.{AllByRecursion, filter_map}
 use Rattle.std.proofs.Math.ListN.{length-map}
-use Rattle.unit_code.specs.Listing.{Listing, FitsTogether}
+use Rattle.unit_code.specs.declared.unit.Unit.{Unit}
+use Rattle.unit_code.specs.Listing.{BankListing, Listing}
 use Rattle.unit_code.specs.Proper.{IsProper}
+use Rattle.unit_code.specs.Targets.{AreFirstWords, number_of}
+use Rattle.harbor_spell.proofs.OneSpelling.{starts_count}
+use Rattle.harbor_verify.specs.Parts.{IsAccepted}
+use Rattle.harbor_verify.specs.Verdict.{refusal as verify_refusal, units_in}
+use Rattle.harbor_verify.specs.Walks.{starts_in}
+use Rattle.harbor_verify.proofs.Accepted.{accepted_parts}
+use Rattle.harbor_verify.proofs.NoRefusal.{no_refusal_spells}
+use Rattle.harbor_verify.proofs.NthForm.{first_words}
 use Rattle.module_image.specs.Contents.{Contents, FaceRules}
 use Rattle.domain_model.specs.Units.{are_built}
-use Rattle.domain_model.specs.Prepared.{marks_of, module_of}
+use Rattle.domain_model.specs.Prepared.{Prep, marks_of, module_of, prepared_units, prepared_words, spelled}
+use Rattle.domain_model.specs.Files.{BeginAt}
 use Rattle.domain_model.specs.Good.{GoodImage}
+use Rattle.domain_model.proofs.FileLaws.{starts_begin}
 use Rattle.domain_model.proofs.UnitLaws.{proper_built}
+use Rattle.mote_core.specs.Listed.{AreNumbersOf, listing_of}
 
 -- the first mark is the handler's, and the others are those of the functions
 first_is_below : (bound : ℕ) (marks : List ℕ) → 0 < length marks → AllByRecursion (λ n. n < bound) marks → slice_index marks 0 < bound
@@ -23,12 +35,12 @@ one_fewer : (marks : List ℕ) (n : ℕ) → length marks ≡ n + 1 → length (
 one_fewer [] n e = absurd (omega (arith, e))
 one_fewer (m ∷ ms) n e = omega (arith, e)
 
-pub as_many_marks : (c : Contents) (l : Listing) → FitsTogether l (marks_of c) → length l.marks ≡ length c.face.provided.items + 1
-as_many_marks c l together = omega (arith, together.marked, length-map c.face.provided.items (λ p. p.word))
+pub as_many_marks : (c : Contents) (numbers : List ℕ) (units : List Unit) → AreNumbersOf numbers units (marks_of c) → length numbers ≡ length c.face.provided.items + 1
+as_many_marks c numbers units together = omega (arith, together.marked, length-map c.face.provided.items (λ p. p.word))
 
-pub good_prepared : (c : Contents) (l : Listing) → FaceRules c.face → (sealed : Bool) → IsProper l.units sealed → FitsTogether l (marks_of c) → are_built l.units ≡ true → GoodImage (module_of c l)
+pub good_prepared : (c : Contents) (l : Listing) → FaceRules c.face → (sealed : Bool) → IsProper l.units sealed → AreNumbersOf l.marks l.units (marks_of c) → are_built l.units ≡ true → GoodImage (module_of c l)
 good_prepared c l face sealed proper together built =
-    let count = as_many_marks c l together in
+    let count = as_many_marks c l.marks l.units together in
     record {
       face = face;
       units = proper_built l.units sealed proper built;
@@ -38,3 +50,61 @@ good_prepared c l face sealed proper together built =
         provided = one_fewer l.marks (length c.face.provided.items) count;
       };
     }
+
+-- The numbers of marks at which units begin.
+
+begin_count : (places marks numbers : List ℕ) → BeginAt places marks numbers → length numbers ≡ length marks
+begin_count places [] [] h = refl
+begin_count places [] (n ∷ ns) h = absurd h
+begin_count places (m ∷ ms) [] h = absurd h
+begin_count places (m ∷ ms) (n ∷ ns) h = ap suc (begin_count places ms ns h.2)
+
+begin_below : (places marks numbers : List ℕ) → BeginAt places marks numbers → AllByRecursion (λ n. n < length places) numbers
+begin_below places [] [] h = tt
+begin_below places [] (n ∷ ns) h = absurd h
+begin_below places (m ∷ ms) [] h = absurd h
+begin_below places (m ∷ ms) (n ∷ ns) h = (h.0, begin_below places ms ns h.2)
+
+-- Words that are not refused are read so: their units are proper, and the units at the marks have numbers.
+pub record AreRead (words marks : List ℕ) (sealed : Bool) : Type 0 where
+  pub proper : IsProper (units_in words) sealed
+  pub numbers : AreNumbersOf (filter_map (number_of (starts_in words)) marks) (units_in words) marks
+
+pub words_read : (words marks : List ℕ) (sealed : Bool) → AllByRecursion (λ w. w < 2 ^ 16) words → verify_refusal words marks sealed ≡ None → AreRead words marks sealed
+words_read words marks sealed small none =
+    let spelled = no_refusal_spells sealed words marks small none in
+    let begin = starts_begin words marks sealed none in
+    let numbers = filter_map (number_of (starts_in words)) marks in
+    let count = starts_count words sealed spelled.lays.0 (units_in words) (starts_in words) spelled.lays.1 in
+    let P : ℕ → Type 0 = λ n. AllByRecursion (λ number. number < n) numbers in
+    record {
+      proper = spelled.proper;
+      numbers = record {
+        marked = begin_count (starts_in words) marks numbers begin;
+        entered = subst P count (begin_below (starts_in words) marks numbers begin);
+      };
+    }
+
+pub starts_rise : (words starts places : List ℕ) → length words ≤ 65535 → AllByRecursion (λ w. w < 2 ^ 16) words → IsAccepted words starts → places ≡ starts → AreFirstWords places
+starts_rise words starts places few small accepted is =
+    subst AreFirstWords (sym is) (first_words words starts (accepted_parts words starts few small accepted))
+
+pub spelled_proper : (words marks : List ℕ) (sealed : Bool) (units : List Unit) → AllByRecursion (λ w. w < 2 ^ 16) words → verify_refusal words marks sealed ≡ None → units ≡ units_in words → IsProper units sealed
+spelled_proper words marks sealed units small none is =
+    let P : List Unit → Type 0 = λ us. IsProper us sealed in
+    subst P (sym is) (words_read words marks sealed small none).proper
+
+pub spelled_numbers : (words marks starts numbers : List ℕ) (sealed : Bool) (units : List Unit) → AllByRecursion (λ w. w < 2 ^ 16) words → verify_refusal words marks sealed ≡ None → units ≡ units_in words → starts ≡ starts_in words → numbers ≡ filter_map (number_of starts) marks → AreNumbersOf numbers units marks
+spelled_numbers words marks starts numbers sealed units small none is are numbered =
+    let P : List Unit → Type 0 = λ us. AreNumbersOf numbers us marks in
+    let Q : List ℕ → Type 0 = λ ns. AreNumbersOf ns (units_in words) marks in
+    subst P (sym is) (subst Q (sym (numbered ∙ ap (λ l. filter_map (number_of l) marks) are)) (words_read words marks sealed small none).numbers)
+
+pub spelled_prepared : (c : Contents) (code : BankListing) (starts numbers : List ℕ) (p : Option Prep) → verify_refusal c.code (marks_of c) c.sealed ≡ None → code.units ≡ units_in c.code → code.starts ≡ starts → starts ≡ starts_in c.code → numbers ≡ filter_map (number_of starts) (marks_of c) → p ≡ prepared_units c (listing_of code numbers) → p ≡ prepared_words c (verify_refusal c.code (marks_of c) c.sealed)
+unfolding spelled
+spelled_prepared c code starts numbers p none units kept are numbered is =
+    let marks : numbers ≡ filter_map (number_of (starts_in c.code)) (marks_of c) = numbered ∙ ap (λ l. filter_map (number_of l) (marks_of c)) are in
+    let same : listing_of code numbers ≡ spelled c.code (marks_of c) = cc in
+    is ∙ ap (prepared_units c) same ∙ sym (ap (prepared_words c) none)
+
+pub ruleset spelled_words = (starts_rise)

@@ -1,5 +1,5 @@
 -- What an answer says of the files and of the words.
-use Rattle.std.proofs.Common.{◌≡◌, ◌∙◌, ℕ, zero, suc, ◌+◌, ◌≤◌, refl, sym, ap, subst, arith, Bool, ◌&&◌, true, false, nat_lt, if◌then◌else◌, List, [], ◌∷◌, ◌++◌, length, Option, Some, None, Result, Ok, Err}
+use Rattle.std.proofs.Common.{◌≡◌, ◌∙◌, ℕ, zero, suc, ◌+◌, ◌≤◌, refl, sym, ap, subst, arith, Bool, true, false, nat_lt, if◌then◌else◌, List, [], ◌∷◌, ◌++◌, length, Option, Some, None, Result, Ok, Err}
 use Rattle.std.proofs.Math.Dec.{eqb-suc-zero}
 use Rattle.std.proofs.lemmas.Bool.{ltb-false}
 use Rattle.mote_base.specs.Files.{Named, held}
@@ -12,7 +12,6 @@ use Rattle.domain_model.specs.declared.request.Kind.{Kind}
 use Rattle.domain_model.specs.declared.request.Kind.TheVariants as kinds
 use Rattle.domain_model.specs.declared.request.Tool.{Tool}
 use Rattle.domain_model.specs.Command.{Command, limit_of}
-use Rattle.domain_model.specs.Loader.{are_for_loader}
 use Rattle.event_script.specs.declared.error.ScriptError.{ScriptError}
 use Rattle.event_script.specs.Refusals.{refusal_of, events_of}
 use Rattle.domain_model.specs.State.{Input}
@@ -81,23 +80,21 @@ images_whole units handler number fs (name ∷ names) files low e =
     subst (AreImages fs (name ∷ names)) (sym one.files_are)
     (one.held, subst (λ limit. length one.bytes ≤ limit) (later_limit units handler number low) one.fits, others)
 
--- A run that is answered by Done has a script that is not refused, of loads and unloads alone, and images that are built.
+-- A run that is answered by Done has a script that is not refused, and images that are built.
 record Built (units handler : ℕ) (images : List (List ℕ)) (events : List Event) (refused : Option ScriptError) (text : List ℕ) : Type 0 where
   pub none : refused ≡ None
-  pub loads : are_for_loader events ≡ true
   pub all : are_built images ≡ true
   pub trace : IsTraceOf (run_input units handler images events) text
 
-runs : (units handler : ℕ) (images : List (List ℕ)) (events : List Event) (loads all : Bool) (text : List ℕ) → Answers (outcome_with (input_with units handler images events (loads && all))) Done text → (loads ≡ true) × (all ≡ true) × IsTraceOf (run_input units handler images events) text
-runs units handler images events true true text a = (refl, refl, a.1)
-runs units handler images events true false text a = let e : Done ≡ Refused = a.0 in absurd (cc)
-runs units handler images events false all text a = let e : Done ≡ Refused = a.0 in absurd (cc)
+runs : (units handler : ℕ) (images : List (List ℕ)) (events : List Event) (all : Bool) (text : List ℕ) → Answers (outcome_with (input_with units handler images events all)) Done text → (all ≡ true) × IsTraceOf (run_input units handler images events) text
+runs units handler images events true text a = (refl, a.1)
+runs units handler images events false text a = let e : Done ≡ Refused = a.0 in absurd (cc)
 
 built : (units handler : ℕ) (images : List (List ℕ)) (events : List Event) (refused : Option ScriptError) (text : List ℕ) → Answers (outcome_of_script units handler refused events images) Done text → Built units handler images events refused text
 built units handler images events (Some error) text a = let e : Done ≡ Refused = a.0 in absurd (cc)
 built units handler images events None text a =
-    let parts = runs units handler images events (are_for_loader events) (are_built images) text a in
-    record { none = refl; loads = parts.0; all = parts.1; trace = parts.2 }
+    let parts = runs units handler images events (are_built images) text a in
+    record { none = refl; all = parts.0; trace = parts.1 }
 
 built_from : (units handler : ℕ) (files images : List (List ℕ)) (script text : List ℕ) → files ≡ script ∷ images → Answers (outcome_by (kinds.Run units handler) files) Done text → Built units handler images (events_of script) (refusal_of (length images) script) text
 built_from units handler files images script text is a =
@@ -123,7 +120,6 @@ writes_run units handler fs (s ∷ names) text before new few a written =
       accepted = b.none;
       events = events_of one.bytes;
       events_are = refl;
-      loads = b.loads;
       built = each_built one.rest b.all;
       lines = b.trace.lines;
       run = b.trace.run;

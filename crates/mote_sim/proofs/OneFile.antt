@@ -13,7 +13,7 @@ use Rattle.mote_sim.specs.Clauses.{Reads, WritesTool}
 use Rattle.mote_sim.specs.Outcome.{outcome_of, outcome_by, Answers}
 use Rattle.mote_sim.specs.Reading.{Whole, gathered_from}
 use Rattle.mote_sim.specs.Refusal.{Refusal}
-use Rattle.mote_sim.specs.Tools.{Output, Lists, Writes, Counts, Assembles, Says, IsOutput, IsMadeBy, Tells}
+use Rattle.mote_sim.specs.Tools.{Output, Lists, Writes, Rewrites, Counts, Assembles, Says, IsOutput, IsMadeBy, Tells}
 use Rattle.mote_sim.proofs.Counts.{HasItsFiles, one_alone}
 use Rattle.mote_sim.proofs.Inversion.{first_of, all_whole}
 
@@ -58,6 +58,7 @@ made_output tool file text (Err refusal) is told = let e : Done ≡ Refused = to
 -- The file of an image reads as that image.
 reads : (output : Output) (text : List ℕ) → IsOutput output text → Reads output text
 reads (Lists units places) text is = is
+reads (Rewrites c) text is = is
 reads (Counts count) text is = is
 reads (Assembles source) text is = is
 reads (Says said) text is = is

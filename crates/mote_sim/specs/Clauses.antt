@@ -14,14 +14,14 @@ use Rattle.domain_model.specs.declared.line.TraceLine.{TraceLine}
 use Rattle.domain_model.specs.declared.request.Kind.TheVariants as kinds
 use Rattle.domain_model.specs.Command.{limit_of}
 use Rattle.domain_model.specs.Prepared.{prepared}
-use Rattle.domain_model.specs.Loader.{are_for_loader}
 use Rattle.event_script.specs.Refusals.{refusal_of, events_of}
 use Rattle.trace_text.specs.Text.{texts}
 use Rattle.avr_asm.specs.Assembly.{IsImageOf}
+use Rattle.harbor_rewrite.specs.Rewritten.{IsRewritten, SpellsOriginal}
 use Rattle.mote_sim.specs.Listing.{listing_text}
 use Rattle.mote_sim.specs.Outcome.{Outcome, NoCommand, Unheld, Refuses, Runs, Makes, Answers}
 use Rattle.mote_sim.specs.Refusal.{Refusal, line_of}
-use Rattle.mote_sim.specs.Tools.{Output, Lists, Writes, Counts, Assembles, Says, IsMadeBy, verdict_line}
+use Rattle.mote_sim.specs.Tools.{Output, Lists, Writes, Rewrites, Counts, Assembles, Says, IsMadeBy, verdict_line}
 use Rattle.mote_sim.specs.Trace.{IsLawfulRun, run_input}
 
 -- These are the bytes of the images of these names: each image is held, and within the limit of an image.
@@ -33,8 +33,8 @@ AreImages files (name ∷ names) (image ∷ images) =
     (held files name ≡ Some image) × (length image ≤ image_limit) × AreImages files names images
 
 -- The files of `run` are a script and one image or more, up to their limit. Each was read whole and is within its
--- limit, the script is not refused and its events are loads and unloads, each image is built, and the bytes that were
--- added are the text of a lawful run of them within these limits.
+-- limit, the script is not refused, each image is built, and the bytes that were added are the text of a lawful run of
+-- them within these limits.
 pub record WritesRun (units handler : ℕ) (names : List (List ℕ)) (files : List Named) (before : List ℕ) (new : Option (List ℕ)) : Type 0 where
   pub script_name : List ℕ
   pub image_names : List (List ℕ)
@@ -49,7 +49,6 @@ pub record WritesRun (units handler : ℕ) (names : List (List ℕ)) (files : Li
   pub events : List Event
   pub accepted : refusal_of (length images) script ≡ None
   pub events_are : events ≡ events_of script
-  pub loads : are_for_loader events ≡ true
   pub built : AllByRecursion (λ image. IsSome (prepared image)) images
   pub lines : List TraceLine
   pub run : IsLawfulRun (run_input units handler images events) lines
@@ -59,6 +58,7 @@ pub record WritesRun (units handler : ℕ) (names : List (List ℕ)) (files : Li
 abbrev pub Reads : Output → List ℕ → Type 0
 Reads (Lists units places) text = text ≡ listing_text units places
 Reads (Writes c) text = (text ≡ spelling c) × (image_of text ≡ Ok c)
+Reads (Rewrites c) text = IsRewritten c text × SpellsOriginal c text
 Reads (Counts count) text = text ≡ verdict_line count
 Reads (Assembles source) text = IsImageOf source text
 Reads (Says said) text = text ≡ said

@@ -13,7 +13,7 @@ use Rattle.avr_asm.specs.declared.error.AsmError.{AsmError}
 use Rattle.avr_asm.specs.Errors.{kind_number as asm_number, line_number as asm_line}
 use Rattle.mote_sim.specs.Fields.{field}
 
--- The file with that number is longer than its limit; the first file is no script; the script or an image is not built;
+-- The file with that number is longer than its limit; the first file is no script; an image is not built;
 -- the file is no image; its code has no units; its words spell none; the image to upgrade is of the second version; the
 -- image is rewritten, or sealed, already; it is an original one, of which no words are verified; or the text is no module.
 pub data Refusal : Type 0 where

@@ -11,6 +11,7 @@ use Rattle.unit_code.specs.declared.unit.Unit.{Unit}
 use Rattle.unit_code.specs.Listing.{Listing}
 use Rattle.unit_code.specs.Spelling.{Spells}
 use Rattle.unit_code.specs.Units.{refusal, listed}
+use Rattle.harbor_rewrite.specs.Rewritten.{IsRewritten, SpellsOriginal}
 use Rattle.harbor_verify.specs.declared.error.VerifyError.{VerifyError}
 use Rattle.harbor_verify.specs.Law.{IsFirst}
 use Rattle.domain_model.specs.declared.request.Tool.{Tool}
@@ -24,11 +25,12 @@ use Rattle.mote_sim.specs.Fields.{field}
 use Rattle.mote_sim.specs.Listing.{listing_text}
 use Rattle.mote_sim.specs.Refusal.{Refusal, BadImage, BadCode, BadWords, IsUpgraded, IsAlready, IsOriginal, BadText, line_of}
 
--- What is written: the lines of these units, with their places, the file of the image of these contents, a verdict, that
--- so many units are spelled, the image of this text of a module, or this text.
+-- What is written: the lines of these units, with their places, the file of the image of these contents, of that image
+-- rewritten, a verdict, that so many units are spelled, the image of this text of a module, or this text.
 pub data Output : Type 0 where
   Lists : List Unit → List ℕ → Output
   Writes : Contents → Output
+  Rewrites : Contents → Output
   Counts : ℕ → Output
   Assembles : List ℕ → Output
   Says : List ℕ → Output
@@ -39,6 +41,7 @@ verdict_line count = codes "ok" ++ field count ++ codes "\n"
 abbrev pub IsOutput : Output → List ℕ → Type 0
 IsOutput (Lists units places) text = text ≡ listing_text units places
 IsOutput (Writes c) text = Image text c
+IsOutput (Rewrites c) text = IsRewritten c text × SpellsOriginal c text
 IsOutput (Counts count) text = text ≡ verdict_line count
 IsOutput (Assembles source) text = IsImageOf source text
 IsOutput (Says said) text = text ≡ said
@@ -67,6 +70,19 @@ IsListWhere false c made = made ≡ list_with c (refusal c.code (marks_of c) c.s
 abbrev pub IsListBy : Result Contents ImageError → Result Output Refusal → Type 0
 IsListBy (Err e) made = made ≡ Err (BadImage e)
 IsListBy (Ok c) made = IsListWhere c.rewritten c made
+
+-- `rewrite` takes an image that no rewriter made and whose code is not refused, and writes the image that spells its units.
+abbrev pub rewrite_with : Contents → Option CodeError → Result Output Refusal
+rewrite_with c (Some e) = Err (BadCode e)
+rewrite_with c None = Ok (Rewrites c)
+
+abbrev pub rewrite_where : Bool → Contents → Result Output Refusal
+rewrite_where true c = Err IsAlready
+rewrite_where false c = rewrite_with c (refusal c.code (marks_of c) c.sealed)
+
+abbrev pub rewrite_by : Result Contents ImageError → Result Output Refusal
+rewrite_by (Err e) = Err (BadImage e)
+rewrite_by (Ok c) = rewrite_where c.rewritten c
 
 -- `verify` takes a rewriter's image, and says how many units its words spell.
 abbrev pub IsVerdictWhere : Bool → Contents → Result Output Refusal → Type 0
@@ -138,6 +154,7 @@ abbrev pub IsMadeBy : Tool → List ℕ → Result Output Refusal → Type 0
 IsMadeBy tools.Listing file made = IsListBy (image_of file) made
 IsMadeBy tools.Upgrade file made = made ≡ upgrade_by (image_of file)
 IsMadeBy tools.Seal file made = made ≡ seal_by (image_of file)
+IsMadeBy tools.Rewriting file made = made ≡ rewrite_by (image_of file)
 IsMadeBy tools.Verdict file made = IsVerdictBy (image_of file) made
 IsMadeBy tools.Assembly file made = made ≡ asm_by file (refusal_of file)
 IsMadeBy tools.Source file made = made ≡ source_by (image_of file)

@@ -1,9 +1,8 @@
 -- The traces of a run.
-use Rattle.std.specs.Prelude.{◌≡◌, ℕ, List, Bool, ◌&&◌, true, false, Option, Some, None, is_some}
+use Rattle.std.specs.Prelude.{◌≡◌, ℕ, List, Bool, true, false, Option, Some, None, is_some}
 use Rattle.std.specs.List.{list_all}
 use Rattle.domain_model.specs.declared.script.Event.{Event}
 use Rattle.domain_model.specs.declared.line.TraceLine.{TraceLine}
-use Rattle.domain_model.specs.Loader.{are_for_loader}
 use Rattle.domain_model.specs.Laws.{LawfulRunFrom}
 use Rattle.domain_model.specs.Prepared.{prepared}
 use Rattle.domain_model.specs.State.{Input}
@@ -24,10 +23,9 @@ abbrev pub input_with : ℕ → ℕ → List (List ℕ) → List Event → Bool 
 input_with units handler images events false = None
 input_with units handler images events true = Some (run_input units handler images events)
 
--- The input that the events of a script and the bytes of its images make within these limits, where all of them are
--- built: no event is a packet or a dump.
+-- The input that the events of a script and the bytes of its images make within these limits, where each image is built.
 abbrev pub input_of : ℕ → ℕ → List Event → List (List ℕ) → Option Input
-input_of units handler events images = input_with units handler images events (are_for_loader events && are_built images)
+input_of units handler events images = input_with units handler images events (are_built images)
 
 -- The lines of a run of the machine, of which each turn is lawful.
 pub record IsLawfulRun (i : Input) (lines : List TraceLine) : Type 0 where

@@ -5,8 +5,8 @@ ghost use Rattle.mote_base.specs.Files.{Named};
 ghost use Rattle.mote_base.specs.Written.{Grows};
 ghost use Rattle.mote_layout.specs.Limits.{unit_limit, handler_limit};
 ghost use Rattle.domain_model.specs.Command.{command_of, takes, IsWithinLimits};
-ghost use Rattle.domain_model.specs.Good.{AreTimes};
-ghost use Rattle.domain_model.specs.Loader.{are_for_loader, is_for_loader, loader_events};
+ghost use Rattle.domain_model.specs.Good.{ArePackets, AreTimes};
+ghost use Rattle.domain_model.specs.Events.{event_times, loader_events, packet_times, packets_in};
 ghost use Rattle.event_script.specs.Refusals.{events_of, refusal_of};
 ghost use Rattle.mote_sim.specs.Asking.{AsksBy, AsksFront, Came};
 ghost use Rattle.mote_sim.specs.Clauses.{WritesRun, WritesTool, RefusesFiles, HasStatus, WritesFront};
@@ -26,8 +26,9 @@ use crate::operands::Operands;
 use crate::play::play;
 use crate::reading::{ReadStop, read_files};
 use crate::request::{Request, request_of};
+use crate::rewriting::write_rewritten;
 use crate::sealing::{seal, upgrade};
-use domain_model::{Event, Kind, Lines, Tool, What};
+use domain_model::{Kind, Lines, Tool};
 use event_script::{Script, ScriptError, parse_script};
 use mote_base::{NoMemory, Shelf, Sink, Status, Word};
 use mote_core::{Limits, Mote, Ready};
@@ -49,19 +50,6 @@ fn prepare_images(alloc: Global, files: &[Vec<u8>]) -> Result<Option<Vec<Ready>>
     Ok(Some(images))
 }
 
-// Whether every event is a load or an unload.
-fn are_for_loader(events: &[Event]) -> bool
-    ensures { result ≡ are_for_loader events.now }
-{
-    events.iter().all(is_for_loader)
-}
-
-fn is_for_loader(event: &Event) -> bool
-    ensures { result ≡ is_for_loader event.now.what }
-{
-    matches!(event.what, What::Load(_) | What::Unload(_))
-}
-
 // A mote at the start of the run of a script over its images within these limits, where all are built.
 fn prepare(
     alloc: Global,
@@ -71,13 +59,12 @@ fn prepare(
 ) -> Result<Option<Mote<PlainRunner>>, NoMemory>
     requires units { limits.units ≤ unit_limit }
     requires handler { (1 ≤ limits.handler) × (limits.handler ≤ handler_limit) }
-    requires times { AreTimes (loader_events script.events.items) }
+    requires packets { ArePackets (packets_in script.events.items) }
+    requires packet_times { AreTimes (packet_times (packets_in script.events.items)) }
+    requires times { AreTimes (event_times (loader_events script.events.items)) }
     ensures { IfOk result (λ found. StandsAt found
         (input_of limits.units limits.handler script.events.items (bytes_of images.now))) }
 {
-    if !are_for_loader(&script.events) {
-        return Ok(None);
-    }
     let images = match prepare_images(alloc, images)? {
         None => return Ok(None),
         Some(images) => images,
@@ -97,7 +84,9 @@ fn run_script<K: Sink>(
 ) -> Status
     requires units { limits.units ≤ unit_limit }
     requires handler { (1 ≤ limits.handler) × (limits.handler ≤ handler_limit) }
-    requires times { AreTimes (loader_events script.events.items) }
+    requires packets { ArePackets (packets_in script.events.items) }
+    requires packet_times { AreTimes (packet_times (packets_in script.events.items)) }
+    requires times { AreTimes (event_times (loader_events script.events.items)) }
     ensures { Ends K.written K.faults (LeadsBySome K.leads) out.old out.new 0 0
         (Answers (outcome_with (input_of limits.units limits.handler script.events.items (bytes_of images.now)))) result }
 {
@@ -146,6 +135,7 @@ fn make<K: Sink>(alloc: Global, tool: Tool, file: &[u8], out: &mut K) -> Status
         Tool::Listing => list(alloc, file, out),
         Tool::Upgrade => upgrade(alloc, file, out),
         Tool::Seal => seal(alloc, file, out),
+        Tool::Rewriting => write_rewritten(alloc, file, out),
         Tool::Verdict => judge(alloc, file, out),
         Tool::Assembly => write_module(alloc, file, out),
         Tool::Source => write_text(alloc, file, out),
@@ -246,7 +236,7 @@ pub fn mote_main<F: Shelf, K: Sink>(
         × Grows (K.written out.old) (K.written out.new) usage_line }
     ensures no_command { command_of words.now ≡ None → (result ≡ Status.Usage) ⊎ (result ≡ Status.WriteFault) }
 
-    // Refused: a file is longer than its limit, the script or an image of a run is not built, or a tool refuses its file.
+    // Refused: a file is longer than its limit, an image of a run is not built, or a tool refuses its file.
     // What refuses it is the first of the tool's refusals, in the order of its definition.
     ensures refused { result ≡ Status.Refused → (fs : List Named) → F.files shelf.old ≡ Some fs →
         RefusesFiles (outcome (command_of words.now) fs) (K.written out.old) (K.written out.new) }

@@ -24,6 +24,7 @@ mod operands;
 mod play;
 mod reading;
 mod request;
+mod rewriting;
 mod sealing;
 
 pub use answer::mote_main;

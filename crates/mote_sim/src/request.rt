@@ -28,6 +28,8 @@ fn tool_of(verb: &Word) -> Option<Tool>
         Some(Tool::Upgrade)
     } else if verb.text() == "seal" {
         Some(Tool::Seal)
+    } else if verb.text() == "rewrite" {
+        Some(Tool::Rewriting)
     } else if verb.text() == "verify" {
         Some(Tool::Verdict)
     } else if verb.text() == "asm" {

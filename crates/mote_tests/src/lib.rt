@@ -1,6 +1,7 @@
 //! Tests of the public calls of the machine of domains, the mote and the program.
 //!
 //! - `rows`: runs and listings of `mote_sim`'s top call, with their faults and limits.
+//! - `rewritten`: runs of images that a rewriter made.
 //! - `words`: which words of the command line are a command, and its options.
 //! - `images`: images that the top call writes by `upgrade` and `seal`.
 //! - `turns`: turns of a mote of `mote_core` under small limits, by two runners.
@@ -26,6 +27,8 @@ mod lines;
 mod modules;
 #[cfg(test)]
 mod parcels;
+#[cfg(test)]
+mod rewritten;
 #[cfg(test)]
 mod rows;
 #[cfg(test)]

@@ -382,13 +382,6 @@ const RUNS: &[Row] = &[
     Row {
         words: "run s a",
         script: LOAD,
-        images: &[REWRITTEN],
-        status: Status::Refused,
-        text: "refused unbuilt\n",
-    },
-    Row {
-        words: "run s a",
-        script: LOAD,
         images: &[ASKS_MUCH],
         status: Status::Done,
         text: "0 refused 0 6 0 0 0\n0 end idle\n",

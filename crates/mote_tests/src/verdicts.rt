@@ -1,6 +1,6 @@
-//! Verdicts on rewritten images, and their listings. Code words stand low byte first.
+//! Rewritten images, verdicts on them, and their listings. Code words stand low byte first.
 
-use crate::rows::{LOAD, NEVER, SAYS, answer, shelf_with};
+use crate::rows::{JUMPS, LOAD, NEVER, SAYS, answer, shelf_with};
 use mote_base::{MemSink, Status};
 use std::test::Fail;
 
@@ -59,6 +59,51 @@ const EMPTY: &[u8] = b"SOSM\x01\x01\x01\0\0\0\0\0\0\0\0";
 
 /// A return that is entered at its second word: 940C F096.
 const ENTERED_WITHIN: &[u8] = b"SOSM\x01\x01\x01\0\0\x01\0\0\0\x02\0\x0C\x94\x96\xF0";
+
+/// The module of the store, before it was rewritten: 930C 9508.
+const STORE_ORIGINAL: &[u8] = b"SOSM\x01\x02\0\0\0\0\0\0\0\x02\0\x0C\x93\x08\x95";
+
+/// That of the skip: FF00 931C 9508.
+const SKIP_ORIGINAL: &[u8] = b"SOSM\x01\x02\0\0\0\0\0\0\0\x03\0\0\xFF\x1C\x93\x08\x95";
+
+/// That of the loop: E00A 950A F7F1 9508.
+const LOOP_ORIGINAL: &[u8] = b"SOSM\x01\x01\0\0\0\0\0\0\0\x04\0\x0A\xE0\x0A\x95\xF1\xF7\x08\x95";
+
+/// That of the load: 918C 9508, sealed.
+const LOAD_ORIGINAL: &[u8] = b"SOSM\x02\x01\x02\0\0\0\0\0\0\x02\0\0\0\x8C\x91\x08\x95";
+
+/// Rewriting: the words, the image, and what is answered.
+const REWRITTEN: &[(&str, &[u8], Status, &[u8])] = &[
+    ("rewrite a", STORE_ORIGINAL, Status::Done, STORE),
+    ("rewrite a", SKIP_ORIGINAL, Status::Done, SKIP),
+    ("rewrite a", LOOP_ORIGINAL, Status::Done, LOOP_SHORT),
+    ("rewrite a", LOAD_ORIGINAL, Status::Done, LOAD_SEALED),
+    ("rewrite a", STORE, Status::Refused, b"refused already\n"),
+    ("rewrite a", JUMPS, Status::Refused, b"refused code 2 0 1\n"),
+    (
+        "rewrite a",
+        b"SOSM\x01",
+        Status::Refused,
+        b"refused image 1 5\n",
+    ),
+    ("rewrite", STORE, Status::Usage, b"mote: usage\n"),
+];
+
+#[test]
+fn rewritings_are_the_worked_ones(rt: HostRuntime) -> Result<(), Fail> {
+    let alloc = rt.alloc();
+    for (words, image, status, file) in REWRITTEN {
+        let mut shelf = shelf_with(alloc, LOAD.as_bytes(), &[*image], NEVER)?;
+        let mut out = MemSink::new(alloc, 1000, vec![in alloc]?)?;
+        assert_eq!(rt;
+            answer(alloc, words, &mut shelf, &mut out)?,
+            *status,
+            "{words}"
+        );
+        assert_eq!(rt; out.bytes(), *file, "{words}");
+    }
+    Ok(())
+}
 
 /// A call: the words, the image, and what is answered.
 type Row = (&'static str, &'static [u8], Status, &'static str);

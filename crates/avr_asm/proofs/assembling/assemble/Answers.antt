@@ -1,4 +1,4 @@
-use Rattle.std.proofs.Common.{◌≡◌, ◌∙◌, None, ap, map, sym}
+use Rattle.std.proofs.Common.{◌∙◌, ap, map, sym}
 use Rattle.avr_asm.specs.Refusals.{refused}
 use Rattle.avr_asm.specs.Seen.{row_seen}
 use Rattle.avr_asm.specs.Text.{lines_in}

@@ -1,4 +1,4 @@
-use Rattle.std.proofs.Common.{◌≡◌, ◌≤◌, ◌+◌, drop, sum_by}
+use Rattle.std.proofs.Common.{◌≤◌, ◌+◌, drop, sum_by}
 use Rattle.mote_layout.specs.Memory.{bank_words}
 use Rattle.avr_asm.specs.Encoding.{AreEncodable}
 use Rattle.avr_asm.specs.Rows.{unit_words}

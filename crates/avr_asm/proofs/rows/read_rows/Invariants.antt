@@ -1,4 +1,4 @@
-use Rattle.std.proofs.Common.{◌≡◌, ◌≤◌, ◌+◌, ◌*◌, ◌++◌, map, length}
+use Rattle.std.proofs.Common.{◌≡◌, ◌≤◌, ◌+◌, ◌++◌, map, length}
 use Rattle.avr_asm.specs.Rows.{rows, rows_of}
 use Rattle.avr_asm.specs.Seen.{row_seen}
 use Rattle.avr_asm.specs.Text.{lines_in}

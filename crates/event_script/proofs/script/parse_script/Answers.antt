@@ -1,6 +1,6 @@
 use Rattle.std.proofs.Common.{◌≡◌, ◌<◌, length, sym, arith, inr}
 use Rattle.std.proofs.lemmas.Bool.Decides.{nat_tests}
-use Rattle.event_script.proofs.Times.{MayRun, script_runs}
+use Rattle.event_script.proofs.Times.{script_runs}
 use Rattle.event_script.proofs.Steps.{at_end, so_far-start, so_far-blank, so_far-event, refused-unended, refused-line, refused-event}
 use Rattle.event_script.proofs.script.parse_script.Goals as goal
 
