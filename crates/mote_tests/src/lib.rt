@@ -6,6 +6,7 @@
 //! - `images`: images that the top call writes by `upgrade` and `seal`.
 //! - `turns`: turns of a mote of `mote_core` under small limits, by two runners.
 //! - `units`: runs of modules with units and kernel calls of each kind, by the top call and by both runners.
+//! - `parcels`: runs with payloads, packets and dumps, by the top call.
 //! - `scribble`: a second runner, which leaves other values in every byte that a unit leaves open.
 //! - `modules`: modules as text, and the text of an image.
 //! - `verdicts`: verdicts on rewritten images, and their listings.
@@ -24,6 +25,8 @@ mod images;
 mod lines;
 #[cfg(test)]
 mod modules;
+#[cfg(test)]
+mod parcels;
 #[cfg(test)]
 mod rewritten;
 #[cfg(test)]

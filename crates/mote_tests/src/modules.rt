@@ -9,7 +9,8 @@ const SAYS_TEXT: &[u8] =
     b"module 1\nversion 1\nstate 0\nhandler .0\ncode\nldi r24,65\nkcall 8\nret\n";
 
 /// A module that counts down: E00A 950A F7F1 9508.
-const COUNTS: &[u8] = b"SOSM\x01\x01\0\0\0\0\0\0\0\x04\0\x0A\xE0\x0A\x95\xF1\xF7\x08\x95";
+pub(crate) const COUNTS: &[u8] =
+    b"SOSM\x01\x01\0\0\0\0\0\0\0\x04\0\x0A\xE0\x0A\x95\xF1\xF7\x08\x95";
 
 /// The same with a label, a remark and an empty line.
 const COUNTS_LABELLED: &[u8] = b"# counts down\nmodule 1\nversion 1\nstate 0\nhandler .0\n\ncode\n\

@@ -74,7 +74,7 @@ const FILLS: &[u8] = b"SOSM\x01\x01\0\0\0\0\0\0\0\x38\0\
     \x82\xE0\x0E\x94\x03\xF1\x82\xE0\x0E\x94\x03\xF1\x0E\x94\x08\xF1\x08\x95";
 
 /// Module 2 does nothing: 9508.
-const IDLES: &[u8] = b"SOSM\x01\x02\0\0\0\0\0\0\0\x01\0\x08\x95";
+pub(crate) const IDLES: &[u8] = b"SOSM\x01\x02\0\0\0\0\0\0\0\x01\0\x08\x95";
 
 /// Sixteen modules that do nothing: 9508.
 const RETURNS: &[&[u8]] = &[
@@ -183,12 +183,12 @@ pub(crate) fn answer<W: Sink>(
 pub(crate) const NEVER: u32 = 1000;
 
 /// A call: the words, the script, the images, and what is answered.
-struct Row {
-    words: &'static str,
-    script: &'static str,
-    images: &'static [&'static [u8]],
-    status: Status,
-    text: &'static str,
+pub(crate) struct Row {
+    pub(crate) words: &'static str,
+    pub(crate) script: &'static str,
+    pub(crate) images: &'static [&'static [u8]],
+    pub(crate) status: Status,
+    pub(crate) text: &'static str,
 }
 
 const RUNS: &[Row] = &[
@@ -476,10 +476,10 @@ const LISTINGS: &[Row] = &[
 ];
 
 /// Each row is answered as it says.
-fn check_rows(rt: &impl Abort, alloc: Global, rows: &[Row]) -> Result<(), NoMemory> {
+pub(crate) fn check_rows(rt: &impl Abort, alloc: Global, rows: &[Row]) -> Result<(), NoMemory> {
     for row in rows {
         let mut shelf = shelf_with(alloc, row.script.as_bytes(), row.images, NEVER)?;
-        let mut out = MemSink::new(alloc, 1000, vec![in alloc]?)?;
+        let mut out = MemSink::new(alloc, 2000, vec![in alloc]?)?;
         assert_eq!(rt; answer(alloc, row.words, &mut shelf, &mut out)?, row.status);
         assert_eq!(rt; out.bytes(), row.text.as_bytes());
     }

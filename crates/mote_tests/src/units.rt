@@ -43,7 +43,7 @@ const LIFTS_SP: &[u8] = b"SOSM\x01\x01\0\0\0\0\0\0\0\x05\0\xCF\xEF\xD1\xE1\xDE\x
 const POPS: &[u8] = b"SOSM\x01\x01\0\0\0\0\0\0\0\x02\0\x0F\x90\x08\x95";
 
 /// Module 1 pushes without end: 752 pushes and as many jumps: 920F CFFE.
-const PUSHES: &[u8] = b"SOSM\x01\x01\0\0\0\0\0\0\0\x02\0\x0F\x92\xFE\xCF";
+pub(crate) const PUSHES: &[u8] = b"SOSM\x01\x01\0\0\0\0\0\0\0\x02\0\x0F\x92\xFE\xCF";
 
 /// Module 1 frees its state and stores to it: 940E F101 E0A0 E0B2 920C 9508.
 const FREES: &[u8] =
