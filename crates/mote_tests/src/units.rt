@@ -138,6 +138,12 @@ const KEEPS: &[u8] = b"SOSM\x01\x02\0\x08\0\0\0\0\0\x01\0\x08\x95";
 const STEALS: &[u8] =
     b"SOSM\x01\x01\0\0\0\0\0\0\0\x06\0\x80\xE0\x92\xE0a\xE0\x0E\x94\x02\xF1\x08\x95";
 
+/// Module 1 fills its state of 1024 bytes and reads it, 146 times, waits, and says the last byte that it read: 900,000 units.
+/// E902 01DC E0E0 E0F4 930D 9731 F7E9 01DC E0E0 E0F4 911D 9731 F7E9 950A F791 E8E5
+/// E0F3 9731 F7F1 2F81 940E F108 9508.
+const TABULATES: &[u8] =
+    b"SOSM\x01\x01\0\0\x04\0\0\0\0\x17\0\x02\xE9\xDC\x01\xE0\xE0\xF4\xE0\x0D\x931\x97\xE9\xF7\xDC\x01\xE0\xE0\xF4\xE0\x1D\x911\x97\xE9\xF7\x0A\x95\x91\xF7\xE5\xE8\xF3\xE01\x97\xF1\xF7\x81/\x0E\x94\x08\xF1\x08\x95";
+
 /// Module 2 does nothing: 9508.
 const IDLES: &[u8] = b"SOSM\x01\x02\0\0\0\0\0\0\0\x01\0\x08\x95";
 
@@ -344,5 +350,55 @@ fn block_of_another_is_not_handed_over(rt: HostRuntime) -> Result<(), Fail> {
     let text = "0 load 2 0 0200\n0 run 2 0 0\n0 done 2\n1 load 1 1 0000\n1 run 1 0 0\n\
         4 fault owner 1 3 0200\n4 unload 1\n5 end idle\n";
     assert_eq!(rt; out.bytes(), text.as_bytes());
+    Ok(())
+}
+
+/// Words of a run, its image, and the trace.
+struct Limited {
+    words: &'static str,
+    image: &'static [u8],
+    text: &'static str,
+}
+
+const LIMITED: &[Limited] = &[
+    Limited {
+        words: "run --handler 100 s a",
+        image: SPINS,
+        text: "0 load 1 0 0000\n0 run 1 0 0\n100 fault watchdog 1 0 10ff\n100 unload 1\n100 end idle\n",
+    },
+    Limited {
+        words: "run s --units=40 a",
+        image: SPINS,
+        text: "0 load 1 0 0000\n0 run 1 0 0\n40 end budget\n",
+    },
+    Limited {
+        words: "run --handler 1000000 s a",
+        image: TABULATES,
+        text: "0 load 1 0 0200\n0 run 1 0 0\n899998 say 1 1\n899999 done 1\n900000 end idle\n",
+    },
+    Limited {
+        words: "run --units 900000 --handler=1000000 s a",
+        image: TABULATES,
+        text: "0 load 1 0 0200\n0 run 1 0 0\n899998 say 1 1\n899999 done 1\n900000 end idle\n",
+    },
+    Limited {
+        words: "run --handler=1000000 s a --units 899999",
+        image: TABULATES,
+        text: "0 load 1 0 0200\n0 run 1 0 0\n899998 say 1 1\n899999 end budget\n",
+    },
+];
+
+#[test]
+fn limits_are_those_of_the_words(rt: HostRuntime) -> Result<(), Fail> {
+    let alloc = rt.alloc();
+    for row in LIMITED {
+        let mut shelf = shelf_with(alloc, LOAD.as_bytes(), &[row.image], NEVER)?;
+        let mut out = MemSink::new(alloc, 1000, vec![in alloc]?)?;
+        assert_eq!(rt;
+            answer(alloc, row.words, &mut shelf, &mut out)?,
+            Status::Done
+        );
+        assert_eq!(rt; out.bytes(), row.text.as_bytes());
+    }
     Ok(())
 }
