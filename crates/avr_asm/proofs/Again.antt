@@ -33,9 +33,6 @@ use Rattle.avr_asm.proofs.Texted.{Gathers, gather_step, some_decimal, goal_decim
 loaded_again : (sealed : Bool) (i : Instr) (b : Bool) → (sealed && is_load i) ≡ b → load_where (sealed && is_load i) i ≡ load_where b i
 loaded_again sealed i b h = ap (λ (z : Bool). load_where z i) h
 
-no_goal : (all : List Row) (sealed : Bool) (u v : Unit) → guarded sealed (aimed v None) ≡ u → guarded sealed (aimed v (led all (some_goal []))) ≡ u
-no_goal all sealed u v h = h
-
 to_target : (all : List Row) (sealed : Bool) (u v : Unit) (t : ℕ) → t < 2 ^ 16 → guarded sealed (aimed v (Some t)) ≡ u → guarded sealed (aimed v (led all (some_goal (decimal t)))) ≡ u
 to_target all sealed u v t low h = ap (λ (o : Option ℕ). guarded sealed (aimed v o)) (led_decimal all t low) ∙ h
 
