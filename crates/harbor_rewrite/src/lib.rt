@@ -13,4 +13,4 @@ mod laws;
 pub use bank::bank_code;
 pub use error::RewriteError;
 pub use image::rewrite;
-pub use laws::{emitted_spell, one_emission, words_exist};
+pub use laws::{emitted_spell, one_emission, rewritten_is_accepted, words_exist};
