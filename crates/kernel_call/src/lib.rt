@@ -5,6 +5,12 @@
 //! turns (`Turn`). `Kernel::cpu_mut` lends the processor, and nothing else changes through it. The kernel keeps of itself
 //! what its calls need (`specs/Sound.antt`), and nothing of the processor's values.
 //!
+//! Inside it `Mail` has the heap, the messages that wait and the one in hand, and keeps that the kernel's blocks are exactly the
+//! payloads of these messages, each once. So a parcel stays with its message until it is settled to the domain that takes it,
+//! or scrapped at the end of the handler or with a module that goes.
+//!
+//! `Kernel::radio` is a packet that comes (`Radio` there), and `Kernel::dump` prints the state (`Dump`).
+//!
 //! [`Runner`] is what runs the units of the loaded modules over a kernel. Its law ties it to the machine's step of a unit,
 //! which leaves the free bytes open: a runner may do with those what it likes.
 #![tactic(auto)]

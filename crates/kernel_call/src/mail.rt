@@ -51,7 +51,7 @@ impl Mail {
         })
     }
 
-    /// The blocks are sorted, and none lie in two segments.
+    /// The segments of the blocks are sorted, and no two share a block.
     fn known(&self)
         ensures { AreBlocks self.now.blocks }
     {
@@ -88,7 +88,7 @@ impl Mail {
         self.queues.at(high, i)
     }
 
-    /// Whether one of the queues takes no more.
+    /// Whether one of the queues takes one more.
     pub fn has_room(&self, high: bool) -> bool
         ensures { result ≡ nat_lt (length (list_of high self.now.queues)) queue_limit }
     {

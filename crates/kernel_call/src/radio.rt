@@ -21,7 +21,8 @@ use sos_heap::Parcel;
 const RADIO: u8 = 255;
 
 impl Kernel {
-    /// A packet comes, in a handler too: it becomes a message in the low queue, or is dropped. Its line tells which.
+    /// A packet of at most 96 bytes comes, in a handler too: it becomes a message in the low queue, with its bytes in a new block
+    /// of the kernel's, or is dropped. Its line tells which. The time at which it was due means nothing any more.
     #[tactic(auto, using(crate::proofs::Packets::heard_at))]
     pub fn radio(&mut self, to: u8, sort: u8, bytes: &[u8], lines: &mut Lines)
         requires short { length bytes.now ≤ payload_limit }

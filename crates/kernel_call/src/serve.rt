@@ -79,8 +79,8 @@ const TOO_LONG: u16 = 1;
 const CLOCK_MODULUS: u64 = 65536;
 
 impl Kernel {
-    /// The kernel call of that number, of the running module. Where a block argument isn't a block of its own the call is
-    /// refused before anything else is looked at.
+    /// The kernel call of that number, of the running module. Where a block argument isn't a block of its own, or has fewer
+    /// bytes than are posted or sent, the call is refused before anything else is looked at.
     pub fn serve(&mut self, n: u8, lines: &mut Lines) -> Served
         requires handler { IsSome self.old.running }
         requires built { IsSome (service_of n) }
