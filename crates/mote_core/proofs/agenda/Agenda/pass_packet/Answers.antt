@@ -1,6 +1,5 @@
-use Rattle.std.proofs.Common.{◌≡◌, List, ap, sym, drop-drop, drop}
+use Rattle.std.proofs.Common.{List, ap, sym, drop-drop, drop}
 use Rattle.domain_model.specs.declared.event.Packet.{Packet}
-use Rattle.mote_core.specs.Value.{Plan}
 use Rattle.mote_core.proofs.agenda.Agenda.pass_packet.Goals as goal
 
 pub returns : goal.returns
