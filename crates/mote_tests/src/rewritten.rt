@@ -1,7 +1,9 @@
 //! Runs of images that a rewriter made: their words are checked, and the units that they spell are run. Code words stand low byte first.
 
 use crate::rows::{LOAD, NEVER, SAID, answer, shelf_with};
-use mote_base::{MemSink, Status};
+use crate::units;
+use mote_base::{MemShelf, MemSink, NoMemory, Status};
+use std::alloc::Global;
 use std::test::Fail;
 
 /// Module 1 says byte 65, as `rows` has it before it was rewritten: E481 940E F108 940C F096.
@@ -70,6 +72,33 @@ fn rewritten_images_run_as_their_originals(rt: HostRuntime) -> Result<(), Fail> 
     let alloc = rt.alloc();
     for row in ROWS {
         let mut shelf = shelf_with(alloc, LOAD.as_bytes(), &[row.image], NEVER)?;
+        let mut out = MemSink::new(alloc, 1000, vec![in alloc]?)?;
+        assert_eq!(rt;
+            answer(alloc, "run s a", &mut shelf, &mut out)?,
+            Status::Done
+        );
+        assert_eq!(rt; out.bytes(), row.text.as_bytes());
+    }
+    Ok(())
+}
+
+/// A shelf with the script that loads, and one image.
+fn shelf_of(alloc: Global, image: &[u8]) -> Result<MemShelf, NoMemory> {
+    shelf_with(alloc, LOAD.as_bytes(), &[image], NEVER)
+}
+
+/// Each module of the rows of units gives the same trace when it was rewritten.
+#[test]
+fn units_run_the_same_when_rewritten(rt: HostRuntime) -> Result<(), Fail> {
+    let alloc = rt.alloc();
+    for row in units::ROWS {
+        let mut shelf = shelf_of(alloc, row.image)?;
+        let mut rewritten = MemSink::new(alloc, 1000, vec![in alloc]?)?;
+        assert_eq!(rt;
+            answer(alloc, "rewrite a", &mut shelf, &mut rewritten)?,
+            Status::Done
+        );
+        let mut shelf = shelf_of(alloc, rewritten.bytes())?;
         let mut out = MemSink::new(alloc, 1000, vec![in alloc]?)?;
         assert_eq!(rt;
             answer(alloc, "run s a", &mut shelf, &mut out)?,

@@ -152,12 +152,12 @@ const GIVES: &[u8] =
     b"SOSM\x01\x01\0\x08\0\0\0\0\0\x09\0b\xE0\x0E\x94\x02\xF1\x0E\x94\x08\xF1\xA0\xE0\xB2\xE0\x0C\x92\x08\x95";
 
 /// A module that is loaded at time 0, and the trace of its run.
-struct Row {
-    image: &'static [u8],
-    text: &'static str,
+pub(crate) struct Row {
+    pub(crate) image: &'static [u8],
+    pub(crate) text: &'static str,
 }
 
-const ROWS: &[Row] = &[
+pub(crate) const ROWS: &[Row] = &[
     Row {
         image: MOVES,
         text: "0 load 3 0 0200\n0 run 3 0 0\n5 fault store 3 5 01ff\n5 unload 3\n6 end idle\n",
