@@ -19,7 +19,7 @@ use Rattle.mote_layout.proofs.LeastFit.{fit-some}
 use Rattle.mote_layout.proofs.Beginnings.{begins_at}
 use Rattle.mote_layout.proofs.Entries.{served_stays, served_gains, without_stays, handed_over_stays, handed_over_gains, handed_over_loses}
 use Rattle.domain_model.specs.Bytes.{AreBytes}
-use Rattle.domain_model.specs.State.{Message, Loaded, KernelState, with_zeros}
+use Rattle.domain_model.specs.State.{Message, Loaded, KernelState, with_zeros, with_bytes}
 use Rattle.domain_model.specs.Payloads.{holds_bytes, without_load, without_payloads}
 use Rattle.domain_model.specs.Modules.{in_use, free_domain, without_domain}
 use Rattle.domain_model.specs.Given.{Given, given_at, given, nothing_given}
@@ -69,6 +69,10 @@ some_blocks bytes h = let ne = eqb-false bytes 0 h in omega (arith, ne)
 -- zeros leave the length
 pub zeros_length : (bytes : List ℕ) (i n : ℕ) → i + n ≤ length bytes → length (with_zeros bytes i n) ≡ length bytes
 zeros_length bytes i n h = simp (length-append, length-take, length-replicate, length-drop) (omega arith)
+
+-- bytes that are put leave the length
+pub put_length : (memory : List ℕ) (place : ℕ) (bytes : List ℕ) → place + length bytes ≤ length memory → length (with_bytes memory place bytes) ≡ length memory
+put_length memory place bytes h = simp (length-append, length-take, length-drop) (omega (arith, h))
 
 -- each block, and one more
 each_inserted : (P : Segment → Type 0) (s : Segment) (ss : List Segment) → P s → AllByRecursion P ss → AllByRecursion P (inserted s ss)

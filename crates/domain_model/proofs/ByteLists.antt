@@ -112,19 +112,20 @@ frame_bytes m h (suc (suc (suc (suc (suc (suc (suc (suc (suc zero))))))))) = low
 frame_bytes m h (suc (suc (suc (suc (suc (suc (suc (suc (suc (suc zero)))))))))) = high_byte (payload_address m.load) h.address
 frame_bytes m h (suc (suc (suc (suc (suc (suc (suc (suc (suc (suc (suc i))))))))))) = bytes_zeros 5 i
 
-pub dispatched_bytes : (p : Processor) (state : ℕ) (m : Message) → state < 2 ^ 16 → IsFramed m → AreBytes p.memory → HasBytes (dispatched p state m)
-dispatched_bytes p state m small framed h =
+pub dispatched_bytes : (p : Processor) (state constants : ℕ) (m : Message) → state < 2 ^ 16 → constants < 2 ^ 16 → IsFramed m → AreBytes p.memory → HasBytes (dispatched p state constants m)
+dispatched_bytes p state constants m small also framed h =
     let clear : Processor = record {
       registers = replicate register_count 0;
       sreg = 0;
       sp = stack_top;
       memory = frame_of m ++ drop message_frame_bytes p.memory;
     } in
-    pair_bytes (with_pair clear 22 message_frame) 24 state small (pair_bytes clear 22 message_frame (omega arith) (record {
+    let given = with_pair clear 20 constants in
+    pair_bytes (with_pair given 22 message_frame) 24 state small (pair_bytes given 22 message_frame (omega arith) (pair_bytes clear 20 constants also (record {
       registers = bytes_zeros register_count;
       memory = bytes_append (frame_of m) (drop message_frame_bytes p.memory) (frame_bytes m framed) (bytes_drop message_frame_bytes p.memory h);
       sreg = omega arith;
-    }))
+    })))
 
 -- A pair of registers is a word.
 pub pair_word : (p : Processor) (d : ℕ) → AreBytes p.registers → pair p d < 2 ^ 16

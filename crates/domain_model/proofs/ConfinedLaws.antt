@@ -1,7 +1,9 @@
 -- Confinement: what a unit changes is the running domain's, and a fault changes no domain's bytes.
-use Rattle.std.proofs.Common.{◌≡◌, ◌≢◌, ℕ, ◌+◌, ◌≤◌, inl, inr, ◌&&◌, nat_le, List, Bool, true, false, refl, sym, ap, ◌∙◌, subst, arith, Option, Some, slice_index}
+use Rattle.std.proofs.Common.{◌≡◌, ◌≢◌, ℕ, ◌+◌, ◌≤◌, inl, inr, ◌&&◌, ◌||◌, IsSomeAnd, nat_le, List, true, false, refl, sym, ap, ◌∙◌, subst, arith, Option, Some, None, slice_index}
+use Rattle.std.proofs.lemmas.Option.{none-some, same_Some}
 use Rattle.std.proofs.lemmas.Bool.{cases_Bool, or_cases, or_parts, and_parts, leb-true, true≢false}
 use Rattle.mote_layout.specs.Memory.{ram_start, red_zone_start, kernel_bytes_start, kernel_bytes_end}
+use Rattle.unit_code.specs.declared.unit.Unit.{Unit}
 use Rattle.domain_model.specs.declared.event.Choice.TheVariants.{Acts}
 use Rattle.domain_model.specs.declared.fault.UnitEnd.{UnitEnd}
 use Rattle.domain_model.specs.declared.fault.UnitEnd.TheVariants.{On, Over, Fault}
@@ -9,34 +11,58 @@ use Rattle.domain_model.specs.declared.handler.Running.{Running}
 use Rattle.domain_model.specs.declared.line.TraceLine.{TraceLine}
 use Rattle.domain_model.specs.State.{Processor, KernelState, RunnerState, State, with_processor}
 use Rattle.domain_model.specs.Act.{Acted, act, next_unit}
-use Rattle.domain_model.specs.Free.{UnitStep, unit_free, is_dead, is_kernel_byte, calls_kernel, ends_handler, enters_from, enters_kernel, dead_top}
+use Rattle.domain_model.specs.Free.{UnitStep, unit_free, is_dead, is_kernel_byte, calls_kernel, crosses_back, ends_handler, enters_from, enters_kernel, dead_top}
 use Rattle.domain_model.specs.Turn.{settled, at_clock, made, Turn}
-use Rattle.domain_model.specs.Good.{GoodMachine, Good}
-use Rattle.domain_model.specs.Laws.{MayChange, KeepsOthers, MayChangeAtFault, Confined}
+use Rattle.domain_model.specs.Good.{GoodRunning, GoodMachine, Good}
+use Rattle.domain_model.specs.Laws.{MayChange, crossings, StaysWithin, KeepsOthers, MayChangeAtFault, Confined}
 use Rattle.domain_model.specs.Facts.{IsActing}
 use Rattle.domain_model.proofs.ChoiceLaws.{choice_facts}
-use Rattle.domain_model.proofs.StackLaws.{Moves}
 use Rattle.domain_model.proofs.ActLaws.{running_good, act_keeps_banks, end_changes_nothing}
-use Rattle.domain_model.proofs.UnitsKept.{GoodOutcome, good_ends, good_moves, good_serves, good_outcome}
+use Rattle.domain_model.proofs.UnitsKept.{GoodOutcome, good_ends, good_moves, good_serves, good_runs, good_outcome}
 use Rattle.domain_model.proofs.CloseLaws.{settled_rests}
-use Rattle.domain_model.proofs.TurnLaws.{step_changes_alone, step_queues, step_blocks, step_hand}
+use Rattle.domain_model.proofs.TurnLaws.{step_changes_alone, step_running, step_frames, step_queues, step_blocks, step_timers, step_hand}
 
--- The machine's own unit, where it enters no kernel: it goes on, and moves the processor alone.
+-- The machine's own unit, where it enters no kernel: it goes on within the domain, and moves the processor and the calls within it alone.
 record OwnUnit (k : KernelState) (run : Running) (got : Acted) : Type 0 where
   on : got.ending ≡ On
-  alone : got.kernel ≡ with_processor k got.kernel.processor
-  moves : Moves (MayChange k run) run.base k.processor got.kernel.processor
+  alone : got.kernel ≡ record k { processor = got.kernel.processor; running = got.kernel.running; frames = got.kernel.frames }
+  running : IsSomeAnd got.kernel.running (λ after. StaysWithin k run got.kernel after)
+  own : (i : ℕ) → slice_index got.kernel.processor.memory i ≢ slice_index k.processor.memory i → MayChange k run (i + ram_start)
+  below : got.kernel.processor.sp ≤ run.bound
 
-own_by : (calls : Bool) (k : KernelState) (r : RunnerState) (run : Running) (got : Acted) → GoodOutcome calls k r run got → calls ≡ false → ends_handler got.ending ≡ false → OwnUnit k run got
-own_by calls k r run _ (good_ends ending over) no_call goes_on = absurd (true≢false (sym over ∙ goes_on))
-own_by calls k r run _ (good_moves p unit m) no_call goes_on = record { on = refl; alone = refl; moves = m.moves }
-own_by calls k r run _ (good_serves n lines call s behind) no_call goes_on = absurd (true≢false (sym call ∙ no_call))
+-- what runs, runs on
+runs_on : (k n : KernelState) (run : Running) (o : Option Running) → o ≡ Some run → n.frames ≡ k.frames → IsSomeAnd o (λ after. StaysWithin k run n after)
+runs_on k n run None i frames = absurd (none-some run i)
+runs_on k n run (Some after) i frames =
+    let same = same_Some after run i in
+    record { domain = ap (λ (x : Running). x.domain) same; bound = ap (λ (x : Running). x.bound) same; calls = ap crossings frames }
+
+own_by : (o : Option Unit) (k : KernelState) (r : RunnerState) (run : Running) (got : Acted) → GoodRunning k r run → k.running ≡ Some run → GoodOutcome o k r run got → calls_kernel o ≡ false → crosses_back o k.frames ≡ false → ends_handler got.ending ≡ false → OwnUnit k run got
+own_by o k r run _ good i (good_ends ending over) no_call no_return goes_on = absurd (true≢false (sym over ∙ goes_on))
+own_by o k r run _ good i (good_moves p unit m) no_call no_return goes_on = record {
+  on = refl;
+  alone = refl;
+  running = runs_on k (with_processor k p) run k.running i refl;
+  own = m.moves.own;
+  below = omega (arith, m.moves.below, good.bound);
+}
+own_by o k r run _ good i (good_serves n lines call s behind) no_call no_return goes_on = absurd (true≢false (sym call ∙ no_call))
+own_by o k r run _ good i (good_runs p new frames unit lines m) no_call no_return goes_on =
+    let within = m.within no_call no_return in
+    record {
+      on = refl;
+      alone = refl;
+      running = within;
+      own = m.moves.own;
+      below = omega (arith, m.moves.below, m.running.bound, within.bound);
+    }
 
 own_unit : (k : KernelState) (r : RunnerState) (run : Running) → GoodMachine k r → k.running ≡ Some run → enters_kernel k r ≡ false → OwnUnit k run (act k r)
 own_unit k r run h i out =
-    let there : enters_from (Some run) r (act k r).ending ≡ false = ap (λ (o : Option Running). enters_from o r (act k r).ending) (sym i) ∙ out in
-    let parts = or_parts (calls_kernel (next_unit r run)) (ends_handler (act k r).ending) there in
-    own_by (calls_kernel (next_unit r run)) k r run (act k r) (good_outcome k r run h i) parts.0 parts.1
+    let there : enters_from (Some run) k.frames r (act k r).ending ≡ false = ap (λ (o : Option Running). enters_from o k.frames r (act k r).ending) (sym i) ∙ out in
+    let parts = or_parts (calls_kernel (next_unit r run)) (crosses_back (next_unit r run) k.frames || ends_handler (act k r).ending) there in
+    let rest = or_parts (crosses_back (next_unit r run) k.frames) (ends_handler (act k r).ending) parts.1 in
+    own_by (next_unit r run) k r run (act k r) (running_good k r run h i).0 i (good_outcome k r run h i) parts.0 rest.0 rest.1
 
 -- What a runner may make of the free bytes.
 
@@ -69,27 +95,37 @@ free_between k r address out e =
       | inr byte ↦ absurd (true≢false (sym (and_parts (enters_kernel k r) (is_kernel_byte address) byte).0 ∙ out))
     ]
 
+-- what runs within a domain by one kernel does by another with the same frames
+within_alike : (k : KernelState) (run : Running) (n m : KernelState) (after : Running) → m.frames ≡ n.frames → StaysWithin k run n after → StaysWithin k run m after
+within_alike k run n m after frames h = record { domain = h.domain; bound = h.bound; calls = ap crossings frames ∙ h.calls }
+
+goes_within : (k : KernelState) (run : Running) (n m : KernelState) (o p : Option Running) → p ≡ o → m.frames ≡ n.frames → IsSomeAnd o (λ after. StaysWithin k run n after) → IsSomeAnd p (λ after. StaysWithin k run m after)
+goes_within k run n m None None same frames h = h
+goes_within k run n m None (Some b) same frames h = absurd h
+goes_within k run n m (Some a) None same frames h = absurd (none-some a same)
+goes_within k run n m (Some a) (Some b) same frames h =
+    subst (λ (x : Running). StaysWithin k run m x) (sym (same_Some b a same)) (within_alike k run n m a frames h)
+
 -- a step that enters no kernel keeps what is others'
 step_keeps : (k : KernelState) (r : RunnerState) (got : Acted) (run : Running) → GoodMachine k r → k.running ≡ Some run → UnitStep k r got → enters_kernel k r ≡ false → KeepsOthers k run got.kernel
 step_keeps k r got run h i step out =
     let own = own_unit k r run h i out in
     let rest = step_changes_alone k r got step in
-    let good = (running_good k r run h i).0 in
     let top : dead_top (act k r).ending k (act k r).kernel ≡ (act k r).kernel.processor.sp = dead_on (act k r).ending k (act k r).kernel own.on in
-    let moves = own.moves in
     record {
       blocks = step_blocks k r got step ∙ ap (λ (n : KernelState). n.blocks) own.alone;
       modules = ap (λ (n : KernelState). n.modules) rest;
       queues = step_queues k r got step ∙ ap (λ (n : KernelState). n.queues) own.alone;
+      timers = step_timers k r got step ∙ ap (λ (n : KernelState). n.timers) own.alone;
       hand = step_hand k r got step ∙ ap (λ (n : KernelState). n.hand) own.alone;
       ending = ap (λ (n : KernelState). n.ending) rest;
-      running = ap (λ (n : KernelState). n.running) rest;
+      running = goes_within k run (act k r).kernel got.kernel (act k r).kernel.running got.kernel.running (step_running k r got step) (step_frames k r got step) own.running;
       memory = λ n differs.
           elim (cases_Bool (unit_free k r (n + ram_start))) [
             | inl free ↦
                 let dead = dead_at (dead_top (act k r).ending k (act k r).kernel) (n + ram_start) (free_between k r (n + ram_start) out free) in
-                inr (dead.0, omega (arith, dead.1, top, moves.below, good.bound))
-            | inr kept ↦ moves.own n (λ e. differs (step.kernel.memory.same n kept ∙ e))
+                inr (dead.0, omega (arith, dead.1, top, own.below))
+            | inr kept ↦ own.own n (λ e. differs (step.kernel.memory.same n kept ∙ e))
           ];
     }
 
@@ -111,18 +147,19 @@ end_bytes k r got step e i differs =
       | inr kept ↦ absurd (differs (step.kernel.memory.same i kept ∙ old))
     ]
 
--- and it posts nothing
-pub end_queues : (k : KernelState) (r : RunnerState) (got : Acted) → UnitStep k r got → ends_handler (act k r).ending ≡ true → got.kernel.queues ≡ k.queues
-end_queues k r got step e = step_queues k r got step ∙ ap (λ (n : KernelState). n.queues) (end_changes_nothing k r e)
-
--- and it gives and takes no block
-pub end_blocks : (k : KernelState) (r : RunnerState) (got : Acted) → UnitStep k r got → ends_handler (act k r).ending ≡ true → got.kernel.blocks ≡ k.blocks
-end_blocks k r got step e = step_blocks k r got step ∙ ap (λ (n : KernelState). n.blocks) (end_changes_nothing k r e)
-
 -- The turn of a unit.
 
 settled_keeps : (e : UnitEnd) (k : KernelState) (run : Running) (new : KernelState) (r : RunnerState) (lines : List TraceLine) (now : ℕ) → e ≡ On → KeepsOthers k run new → KeepsOthers k run (at_clock (settled e run new r lines).kernel now)
-settled_keeps On k run new r lines now h own = record { blocks = own.blocks; modules = own.modules; queues = own.queues; hand = own.hand; ending = own.ending; running = own.running; memory = own.memory }
+settled_keeps On k run new r lines now h own = record {
+  blocks = own.blocks;
+  modules = own.modules;
+  queues = own.queues;
+  timers = own.timers;
+  hand = own.hand;
+  ending = own.ending;
+  running = goes_within k run new (at_clock new now) new.running new.running refl refl own.running;
+  memory = own.memory;
+}
 settled_keeps Over k run new r lines now h own = absurd (cc)
 settled_keeps (Fault note) k run new r lines now h own = absurd (cc)
 

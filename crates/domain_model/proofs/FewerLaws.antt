@@ -1,77 +1,79 @@
 -- Each turn of a live state leaves fewer to come.
-use Rattle.std.proofs.Common.{Ok, Err, ◌≡◌, ℕ, suc, if◌then◌else◌, nat_lt, ◌+◌, ◌<◌, ◌≤◌, List, [], ◌∷◌, ◌++◌, length, drop, Bool, true, false, refl, ap, ◌∙◌, arith, Option, Some, None, slice_get, is_some}
-use Rattle.std.proofs.lemmas.Bool.{cond-true, lt-ltb, le-ltb}
+use Rattle.std.proofs.Common.{◌≡◌, ℕ, suc, if◌then◌else◌, nat_lt, not, ◌+◌, ◌*◌, ◌<◌, ◌≤◌, ◌&&◌, ◌||◌, List, [], ◌∷◌, ◌++◌, length, drop, Bool, true, false, refl, sym, ap, subst, ◌∙◌, arith, Option, Some, slice_get, is_some}
+use Rattle.std.proofs.lemmas.Bool.{cond-true, lt-ltb, le-leb, or_left, or_right, true≢false, false≢true}
 use Rattle.std.proofs.lemmas.Option.{none-some, same_Some, slice_get_within}
 use Rattle.std.proofs.lemmas.List.{length-drop}
 use Rattle.mote_base.specs.Messages.{Lists, in_order, front, without_front}
-use Rattle.domain_model.specs.declared.event.LoaderOrder.{LoaderOrder}
-use Rattle.domain_model.specs.declared.event.LoaderOrder.TheVariants as what
+use Rattle.mote_base.specs.Timers.{after_firing}
+use Rattle.mote_base.specs.declared.timer.Timer.{Timer}
+use Rattle.domain_model.specs.declared.event.LoaderEvent.{LoaderEvent}
+use Rattle.domain_model.specs.declared.handler.Running.{Running}
 use Rattle.domain_model.specs.declared.event.Choice.{Choice}
-use Rattle.domain_model.specs.declared.event.Choice.TheVariants.{Stays, Hears, Comes, Dispatches, Jumps, Idles, Budgets, Watches, Acts}
+use Rattle.domain_model.specs.declared.event.Choice.TheVariants.{Stays, Hears, Fires, Comes, Dispatches, Jumps, Idles, Budgets, Watches, Acts}
 use Rattle.domain_model.specs.declared.event.Turned.TheVariants.{More}
 use Rattle.domain_model.specs.declared.line.TraceLine.{TraceLine}
-use Rattle.domain_model.specs.Prepared.{Module, Prep}
-use Rattle.domain_model.specs.State.{Loaded, Message, KernelState, RunnerState, State}
-use Rattle.domain_model.specs.Events.{next_time}
-use Rattle.domain_model.specs.Modules.{is_loaded, free_domain, module_named}
-use Rattle.domain_model.specs.Given.{Given}
+use Rattle.domain_model.specs.State.{Loaded, Message, KernelState, State}
+use Rattle.domain_model.specs.Events.{packet_times, event_times, timer_times, is_due}
 use Rattle.domain_model.specs.Act.{Acted, act}
-use Rattle.domain_model.specs.Turn.{state_block, load_image, load_prepared, load_new, load_in, load_given, unload_module, deliver, dispatch, hear, made, came, settled, faulted, watchdog, choice, May, Turn}
-use Rattle.domain_model.specs.Good.{Good}
+use Rattle.domain_model.specs.Turn.{deliver, dispatch, made, watchdog, choice, May, Turn}
+use Rattle.domain_model.specs.Good.{GoodTimer, Good}
 use Rattle.domain_model.specs.Facts.{Facts}
-use Rattle.domain_model.specs.Remaining.{one_if, is_late, goes_on, remaining}
-use Rattle.domain_model.proofs.ChoiceLaws.{choice_facts}
+use Rattle.domain_model.specs.Remaining.{one_if, due_count, any_due, is_quiet, has_run, goes_on, remaining}
+use Rattle.domain_model.proofs.ChoiceLaws.{hears_by, choice_facts}
+use Rattle.domain_model.proofs.TimeLaws.{not_due, none_before, due_then}
+use Rattle.domain_model.proofs.DueLaws.{due_few, fired_counted}
+use Rattle.domain_model.proofs.FiringLaws.{timer_reminds}
+use Rattle.domain_model.proofs.Kept.{each_at}
 use Rattle.domain_model.proofs.ActLaws.{act_posts_one}
 use Rattle.domain_model.proofs.MachineLaws.{receiver_loaded}
 use Rattle.domain_model.proofs.CloseLaws.{faulted_rests, settled_rests}
 use Rattle.domain_model.proofs.HearLaws.{first_hears}
-use Rattle.domain_model.proofs.TurnLaws.{dispatch_clock, step_queues, with_bytes, leaves}
+use Rattle.domain_model.proofs.TurnLaws.{came_apart, dispatch_clock, dispatch_timers, dispatch_runs, step_queues, made_good, with_bytes, leaves}
 
 one_at_most : (b : Bool) → one_if b ≤ 1
 one_at_most true = omega arith
 one_at_most false = omega arith
 
--- a jump to the next line of the script spends its lateness
-late_before : (o : Option ℕ) (now time : ℕ) → o ≡ Some time → now < time → one_if (is_late o now) ≡ 1
-late_before None now time next later = absurd (none-some time next)
-late_before (Some t) now time next later = rw (lt-ltb now t (omega (arith, same_Some t time next, later))) refl
+-- Whether a state is quiet: by what runs, by what waits, and by what is due.
 
-late_after : (o : Option ℕ) (time : ℕ) → o ≡ Some time → one_if (is_late o time) ≡ 0
-late_after None time next = absurd (none-some time next)
-late_after (Some t) time next = rw (le-ltb time t (omega (arith, same_Some t time next))) refl
+quiet_running : (runs waits due : Bool) → runs ≡ true → one_if (not runs && (not waits && not due)) ≡ 0
+quiet_running true waits due e = refl
+quiet_running false waits due e = absurd (false≢true e)
+
+quiet_waits : (runs waits due : Bool) → waits ≡ true → one_if (not runs && (not waits && not due)) ≡ 0
+quiet_waits true waits due e = refl
+quiet_waits false true due e = refl
+quiet_waits false false due e = absurd (false≢true e)
+
+quiet_due : (runs waits due : Bool) → due ≡ true → one_if (not runs && (not waits && not due)) ≡ 0
+quiet_due true waits due e = refl
+quiet_due false true due e = refl
+quiet_due false false true e = refl
+quiet_due false false false e = absurd (false≢true e)
+
+-- No handler runs, or none has run a unit, or one has.
+ran_outside : (runs some : Bool) → runs ≡ false → one_if (runs && some) ≡ 0
+ran_outside true some e = absurd (true≢false e)
+ran_outside false some e = refl
+
+ran_none : (runs : Bool) → one_if (runs && nat_lt 0 0) ≡ 0
+ran_none true = refl
+ran_none false = refl
+
+-- A handler runs, or a state is quiet, but not both.
+not_both : (runs waits due some : Bool) → 33 * one_if (not runs && (not waits && not due)) + 34 * one_if (runs && some) ≤ 34
+not_both true waits due some = omega (arith, one_at_most some)
+not_both false waits due some = omega (arith, one_at_most (not waits && not due))
+
+-- The events that are due, and the timers.
+events_due : (events : List LoaderEvent) (e : LoaderEvent) (now : ℕ) → slice_get events 0 ≡ Some e → e.time ≤ now → is_due (event_times events) now ≡ true
+events_due [] e now first due = absurd (none-some e first)
+events_due (x ∷ xs) e now first due = le-leb x.time now (subst (λ (y : LoaderEvent). y.time ≤ now) (sym (same_Some x e first)) due)
+
+same_due : (k n : KernelState) → n.clock ≡ k.clock → n.timers ≡ k.timers → due_count n.clock n.timers ≡ due_count k.clock k.timers
+same_due k n clock timers = ap (λ (now : ℕ). due_count now n.timers) clock ∙ ap (λ (ts : List Timer). due_count k.clock ts) timers
 
 -- Messages that wait.
-
--- an event brings none and takes none
-given_queues : (o : Option Given) (m : Module) (domain image : ℕ) (k : KernelState) (r : RunnerState) → (load_given o m domain image k r).kernel.queues ≡ k.queues
-given_queues None m domain image k r = refl
-given_queues (Some g) m domain image k r = refl
-
-in_queues : (o : Option ℕ) (m : Module) (image : ℕ) (k : KernelState) (r : RunnerState) → (load_in o m image k r).kernel.queues ≡ k.queues
-in_queues None m image k r = refl
-in_queues (Some domain) m image k r = given_queues (state_block k domain m.state_size) m domain image k r
-
-new_queues : (b : Bool) (m : Module) (image : ℕ) (k : KernelState) (r : RunnerState) → (load_new b m image k r).kernel.queues ≡ k.queues
-new_queues true m image k r = refl
-new_queues false m image k r = in_queues (free_domain k.modules) m image k r
-
-prepared_queues : (prep : Prep) (image : ℕ) (k : KernelState) (r : RunnerState) → (load_prepared prep image k r).kernel.queues ≡ k.queues
-prepared_queues (Err refusal) image k r = refl
-prepared_queues (Ok m) image k r = new_queues (is_loaded k.modules m.face.id) m image k r
-
-image_queues : (o : Option (Option Prep)) (image : ℕ) (k : KernelState) (r : RunnerState) → (load_image o image k r).kernel.queues ≡ k.queues
-image_queues None image k r = refl
-image_queues (Some None) image k r = refl
-image_queues (Some (Some prep)) image k r = prepared_queues prep image k r
-
-unload_queues : (o : Option Loaded) (id : ℕ) (k : KernelState) (r : RunnerState) → (unload_module o id k r).kernel.queues ≡ k.queues
-unload_queues None id k r = refl
-unload_queues (Some row) id k r = refl
-
-came_queues : (images : List (Option Prep)) (w : LoaderOrder) (k : KernelState) (r : RunnerState) → (came images w k r).kernel.queues ≡ k.queues
-came_queues images (what.Load n) k r = image_queues (slice_get images n) n k r
-came_queues images (what.Unload id) k r = unload_queues (module_named k.modules id) id k r
-came_queues images what.Dump k r = refl
 
 -- a dispatch takes one
 taken_one : (high low : List Message) (m : Message) → slice_get (high ++ low) 0 ≡ Some m → length (in_order (without_front (record { high = high; low = low }))) + 1 ≡ length (high ++ low)
@@ -96,39 +98,70 @@ pub made_fewer : (c : Choice) (s : State) (got : Acted) → Good s → Facts c s
 unfolding remaining
 made_fewer Stays s got g facts may live = absurd (facts live)
 made_fewer Hears s got g facts may live =
+    let t : State = (made Hears s got).state in
     let some : 0 < length s.packets = slice_get_within s.packets 0 facts.packet facts.first in
-    let k : KernelState = (hear (slice_get s.packets 0) s.kernel s.runner).kernel in
     let hears = first_hears (slice_get s.packets 0) s.kernel s.runner in
-    let running : one_if (is_some k.running) ≡ one_if (is_some s.kernel.running) = ap (λ (n : KernelState). one_if (is_some n.running)) hears.alone in
-    omega (arith, some, hears.more, running, length-drop 1 s.packets, one_at_most (is_late (next_time (drop 1 s.packets) s.events) k.clock))
+    let due : any_due s ≡ true
+    = or_left (is_due (packet_times s.packets) s.kernel.clock) (is_due (timer_times s.kernel.timers) s.kernel.clock || is_due (event_times s.events) s.kernel.clock)
+    (hears_by s s.packets facts.packet facts.first facts.due) in
+    let before : one_if (is_quiet s) ≡ 0 = quiet_due (is_some s.kernel.running) (is_some (front s.kernel.queues)) (any_due s) due in
+    let ran : one_if (has_run t) ≡ one_if (has_run s) = ap (λ (n : KernelState). one_if (is_some n.running && nat_lt 0 s.spent)) hears.alone in
+    let timers : due_count t.kernel.clock t.kernel.timers ≡ due_count s.kernel.clock s.kernel.timers
+    = same_due s.kernel t.kernel (ap (λ (n : KernelState). n.clock) hears.alone) (ap (λ (n : KernelState). n.timers) hears.alone) in
+    omega (arith, some, hears.more, before, ran, timers, length-drop 1 s.packets, one_at_most (is_quiet t))
+made_fewer Fires s got g facts may live =
+    let t : State = (made Fires s got).state in
+    let reminds = timer_reminds s.kernel facts.timer facts.first facts.due in
+    let after : one_if (is_quiet t) ≡ 0 = quiet_waits (is_some t.kernel.running) (is_some (front t.kernel.queues)) (any_due t) reminds.waits in
+    let ran : one_if (has_run t) ≡ one_if (has_run s) = ap (λ (n : KernelState). one_if (is_some n.running && nat_lt 0 s.spent)) reminds.alone in
+    let timers : due_count t.kernel.clock t.kernel.timers ≡ due_count s.kernel.clock (after_firing s.kernel.clock s.kernel.timers)
+    = ap (λ (n : KernelState). due_count n.clock n.timers) reminds.alone in
+    let ticks : 1 ≤ facts.timer.ticks = (each_at (GoodTimer s.kernel.modules s.kernel.clock) s.kernel.timers 0 facts.timer g.machine.timers.each facts.first).ticks.0 in
+    let fewer = fired_counted s.kernel.clock s.kernel.timers facts.timer facts.first facts.due ticks in
+    omega (arith, reminds.more, after, ran, timers, fewer)
 made_fewer (Comes e) s got g facts may live =
+    let t : State = (made (Comes e) s got).state in
     let some : 0 < length s.events = slice_get_within s.events 0 e facts.first in
-    let k : KernelState = (came s.images e.what s.kernel s.runner).kernel in
-    let same : length (in_order k.queues) ≡ length (in_order s.kernel.queues)
-    = ap (λ (q : Lists Message). length (in_order q)) (came_queues s.images e.what s.kernel s.runner) in
-    omega (arith, some, same, length-drop 1 s.events, one_at_most (is_some k.running), one_at_most (is_late (next_time s.packets (drop 1 s.events)) k.clock))
+    let apart = came_apart s.images e.what s.kernel s.runner in
+    let same : length (in_order t.kernel.queues) ≡ length (in_order s.kernel.queues) = ap (λ (q : Lists Message). length (in_order q)) apart.queues in
+    let due : any_due s ≡ true
+    = or_right (is_due (packet_times s.packets) s.kernel.clock) (is_due (timer_times s.kernel.timers) s.kernel.clock || is_due (event_times s.events) s.kernel.clock)
+    (or_right (is_due (timer_times s.kernel.timers) s.kernel.clock) (is_due (event_times s.events) s.kernel.clock) (events_due s.events e s.kernel.clock facts.first facts.due)) in
+    let before : one_if (is_quiet s) ≡ 0 = quiet_due (is_some s.kernel.running) (is_some (front s.kernel.queues)) (any_due s) due in
+    let after : one_if (has_run t) ≡ 0 = ran_none (is_some t.kernel.running) in
+    let timers : due_count t.kernel.clock t.kernel.timers ≡ due_count s.kernel.clock s.kernel.timers = same_due s.kernel t.kernel apart.clock apart.timers in
+    omega (arith, some, same, before, after, timers, length-drop 1 s.events, one_at_most (is_quiet t))
 made_fewer Dispatches s got g facts may live =
-    let k : KernelState = (dispatch (front s.kernel.queues) s.kernel s.runner).kernel in
-    let one : length (in_order k.queues) + 1 ≡ length (in_order s.kernel.queues) = dispatch_takes s facts.message g facts.first in
-    let clock : one_if (is_late (next_time s.packets s.events) k.clock) ≡ one_if (is_late (next_time s.packets s.events) s.kernel.clock)
-    = ap (λ (n : ℕ). one_if (is_late (next_time s.packets s.events) n)) (dispatch_clock (front s.kernel.queues) s.kernel s.runner) in
-    omega (arith, one, clock, one_at_most (is_some k.running))
+    let t : State = (made Dispatches s got).state in
+    let one : length (in_order t.kernel.queues) + 1 ≡ length (in_order s.kernel.queues) = dispatch_takes s facts.message g facts.first in
+    let runs = dispatch_runs s.kernel s.runner facts.message g.machine facts.first in
+    let after : one_if (is_quiet t) ≡ 0
+    = quiet_running (is_some t.kernel.running) (is_some (front t.kernel.queues)) (any_due t) (ap (λ (o : Option Running). is_some o) runs.1) in
+    let ran : one_if (has_run t) ≡ 0 = ran_none (is_some t.kernel.running) in
+    let timers : due_count t.kernel.clock t.kernel.timers ≡ due_count s.kernel.clock s.kernel.timers
+    = same_due s.kernel t.kernel (dispatch_clock (front s.kernel.queues) s.kernel s.runner) (dispatch_timers (front s.kernel.queues) s.kernel s.runner) in
+    omega (arith, one, after, ran, timers)
 made_fewer (Jumps now) s got g facts may live =
-    let before : one_if (is_late (next_time s.packets s.events) s.kernel.clock) ≡ 1
-    = late_before (next_time s.packets s.events) s.kernel.clock now facts.next facts.later in
-    let after : one_if (is_late (next_time s.packets s.events) now) ≡ 0 = late_after (next_time s.packets s.events) now facts.next in
-    omega (arith, before, after)
+    let t : State = (made (Jumps now) s got).state in
+    let none = none_before s.packets s.events s.kernel.timers s.kernel.clock now facts.next facts.later in
+    let before : one_if (is_quiet s) ≡ 1
+    = rw (facts.outside, facts.none_waits, not_due (packet_times s.packets) s.kernel.clock none.packets, not_due (timer_times s.kernel.timers) s.kernel.clock none.timers, not_due (event_times s.events) s.kernel.clock none.events) refl in
+    let after : one_if (is_quiet t) ≡ 0
+    = quiet_due (is_some t.kernel.running) (is_some (front t.kernel.queues)) (any_due t) (due_then s.packets s.events s.kernel.timers now facts.next) in
+    omega (arith, before, after, due_few now s.kernel.timers, g.machine.timers.few)
 made_fewer Idles s got g facts may live = let e : one_if (goes_on s.ended) ≡ 1 = rw live refl in omega (arith, e)
 made_fewer Budgets s got g facts may live = let e : one_if (goes_on s.ended) ≡ 1 = rw live refl in omega (arith, e)
 made_fewer (Watches run) s got g facts may live =
-    let k : KernelState = (faulted (watchdog s) run s.kernel s.runner []).kernel in
+    let t : State = (made (Watches run) s got).state in
     let rest = faulted_rests (watchdog s) run s.kernel s.runner [] in
-    let before : one_if (is_some s.kernel.running) ≡ 1 = rw facts.running refl in
-    let after : one_if (is_some k.running) ≡ 0 = rw rest.running refl in
-    let clock : one_if (is_late (next_time s.packets s.events) k.clock) ≡ one_if (is_late (next_time s.packets s.events) s.kernel.clock) = ap (λ (n : ℕ). one_if (is_late (next_time s.packets s.events) n)) rest.clock in
-    omega (arith, before, after, clock, rest.fewer)
+    let before : one_if (has_run s) ≡ 1
+    = rw (facts.running, lt-ltb 0 s.spent (omega (arith, facts.spent, g.handler.0))) refl in
+    let after : one_if (has_run t) ≡ 0 = ran_outside (is_some t.kernel.running) (nat_lt 0 s.spent) (ap (λ (o : Option Running). is_some o) rest.running) in
+    let timers : due_count t.kernel.clock t.kernel.timers ≤ due_count s.kernel.clock s.kernel.timers
+    = subst (λ (now : ℕ). due_count now t.kernel.timers ≤ due_count s.kernel.clock s.kernel.timers) (sym rest.clock) (rest.due s.kernel.clock) in
+    omega (arith, before, after, timers, rest.fewer, one_at_most (is_quiet t))
 made_fewer (Acts run) s got g facts may live =
-    let k : KernelState = (settled got.ending run got.kernel got.runner got.lines).kernel in
+    let t : State = (made (Acts run) s got).state in
     let rest = settled_rests got.ending run got.kernel got.runner got.lines in
     let same : length (in_order got.kernel.queues) ≡ length (in_order (act s.kernel s.runner).kernel.queues)
     = ap (λ (q : Lists Message). length (in_order q)) (step_queues s.kernel s.runner got may) in
@@ -139,8 +172,9 @@ made_fewer (Acts run) s got g facts may live =
       rest.fewer,
       same,
       act_posts_one s.kernel s.runner,
-      one_at_most (is_some k.running),
-      one_at_most (is_late (next_time s.packets s.events) (k.clock + 1)),
+      due_few t.kernel.clock t.kernel.timers,
+      (made_good (Acts run) s got g facts may).machine.timers.few,
+      not_both (is_some t.kernel.running) (is_some (front t.kernel.queues)) (any_due t) (nat_lt 0 t.spent),
     )
 
 -- other bytes leave as many

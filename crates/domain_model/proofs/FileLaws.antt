@@ -1,9 +1,7 @@
 -- Each file is what `prepared` makes of it.
-use Rattle.std.proofs.Common.{◌≡◌, ℕ, zero, suc, ◌<◌, ◌≤◌, inl, inr, List, [], ◌∷◌, length, drop, get_or, slice_index, cond, Bool, ◌==◌, true, false, refl, sym, ap, ◌∙◌, arith, Option, Some, None, Result, Ok, Err}
+use Rattle.std.proofs.Common.{◌≡◌, ℕ, zero, suc, ◌<◌, ◌≤◌, inl, inr, List, [], ◌∷◌, length, drop, get_or, slice_index, Bool, true, false, refl, arith, Option, Some, None, Result, Ok, Err}
 use Rattle.std.specs.Prelude.{option_map}
 use Rattle.std.specs.List.{AllByRecursion, Contains, cons_option, filter_map}
-use Rattle.std.proofs.lemmas.Bool.{true≢false}
-use Rattle.std.proofs.lemmas.Bool.Decides.{nat_tests}
 use Rattle.unit_code.specs.declared.error.CodeError.{CodeError}
 use Rattle.unit_code.specs.declared.error.CodeError.TheVariants.{Entry}
 use Rattle.unit_code.specs.Listing.{Listing}
@@ -22,12 +20,11 @@ use Rattle.harbor_verify.proofs.FirstLaw.{refusal_is_first as verdict_is_first}
 use Rattle.harbor_verify.proofs.NoRefusal.{neither, no_refusal_spells, none_of}
 use Rattle.harbor_verify.proofs.Straight.{judged}
 use Rattle.module_image.specs.declared.error.ImageError.{ImageError}
-use Rattle.module_image.specs.Contents.{Contents, IsVersion, first_version, second_version}
+use Rattle.module_image.specs.Contents.{Contents}
 use Rattle.module_image.specs.Reading.{image_of}
 use Rattle.module_image.specs.Spelling.{Image}
 use Rattle.module_image.proofs.Images.{image_takes, image_read}
-use Rattle.domain_model.specs.Units.{are_built}
-use Rattle.domain_model.specs.Prepared.{marks_of, module_of, prepared_code, prepared_contents, prepared_first, prepared_image, prepared_words, spelled}
+use Rattle.domain_model.specs.Prepared.{marks_of, module_of, prepared_code, prepared_contents, prepared_image, prepared_words, spelled}
 use Rattle.domain_model.specs.Files.{AreReadFrom, AreSpelledIn, AreUnitsOf, BeginAt, ComesTo, FilesAreAsPrepared}
 use Rattle.domain_model.proofs.Kept.{contained_first, contained_later}
 
@@ -76,49 +73,41 @@ starts_begin words marks sealed h = all_begin (starts_in words) marks (no_stray_
 
 -- The file, part by part.
 
-other_version : (version : ℕ) → version ≡ second_version → (version == second_version) ≡ false → ⊥
-other_version version second is = true≢false (sym (ap (λ n. n == second_version) second) ∙ is)
-
 module _ (file : List ℕ) (c : Contents) (image : Image file c) where
   short : length c.code ≤ 65535
   short = omega (arith, image.rules.code_count)
 
-  units_come : (l : Listing) (b : Bool) → c.version ≡ first_version → AreUnitsOf l.units (slice_index l.marks 0 ∷ drop 1 l.marks) c → are_built l.units ≡ b → ComesTo (cond b (Some (Ok (module_of c l))) None) file
-  units_come l true first code is = record {
+  units_come : (l : Listing) → AreUnitsOf l.units (slice_index l.marks 0 ∷ drop 1 l.marks) c → ComesTo (Ok (module_of c l)) file
+  units_come l code = record {
     contents = c;
     image = image;
-    holds = record { first = first; code = code; face = refl; state_size = refl; built = is };
-  }
-  units_come l false first code is = record {
-    contents = c;
-    image = image;
-    holds = inr (l.units, slice_index l.marks 0 ∷ drop 1 l.marks, code, is);
+    holds = record { code = code; face = refl; state_size = refl; constants = refl; sealed = refl };
   }
 
-  code_comes : (o : Option CodeError) → c.rewritten ≡ false → c.version ≡ first_version → refusal c.code (marks_of c) c.sealed ≡ o → ComesTo (prepared_code c o) file
+  code_comes : (o : Option CodeError) → c.rewritten ≡ false → refusal c.code (marks_of c) c.sealed ≡ o → ComesTo (prepared_code c o) file
   unfolding listed
-  code_comes (Some e) original first is = record {
+  code_comes (Some e) original is = record {
     contents = c;
     image = image;
-    holds = record { original = original; version = first; first = refusal_is_first c.code (marks_of c) c.sealed e short is };
+    holds = record { original = original; first = refusal_is_first c.code (marks_of c) c.sealed e short is };
   }
-  code_comes None original first is =
+  code_comes None original is =
       let units : AreReadFrom (units_of c.code c.sealed) _ c = record {
         original = original;
         accepted = no_refusal_none_holds c.code (marks_of c) c.sealed short is;
         are = refl;
         entered = parted (places_of c.code) _ _ c.handler (marks_begin c.code (marks_of c) c.sealed is);
       } in
-      units_come (listed c.code (marks_of c) c.sealed) (are_built (units_of c.code c.sealed)) first (inl units) refl
+      units_come (listed c.code (marks_of c) c.sealed) (inl units)
 
-  words_come : (o : Option VerifyError) → c.rewritten ≡ true → c.version ≡ first_version → verify_refusal c.code (marks_of c) c.sealed ≡ o → ComesTo (prepared_words c o) file
+  words_come : (o : Option VerifyError) → c.rewritten ≡ true → verify_refusal c.code (marks_of c) c.sealed ≡ o → ComesTo (prepared_words c o) file
   unfolding spelled
-  words_come (Some e) rewritten first is = record {
+  words_come (Some e) rewritten is = record {
     contents = c;
     image = image;
-    holds = record { rewritten = rewritten; version = first; first = verdict_is_first c.sealed c.code (marks_of c) short image.rules.code e is };
+    holds = record { rewritten = rewritten; first = verdict_is_first c.sealed c.code (marks_of c) short image.rules.code e is };
   }
-  words_come None rewritten first is =
+  words_come None rewritten is =
       let units : AreSpelledIn (units_in c.code) _ c = record {
         rewritten = rewritten;
         starts = starts_in c.code;
@@ -126,23 +115,15 @@ module _ (file : List ℕ) (c : Contents) (image : Image file c) where
         only = λ others places h. let read = judged c.sealed c.code (marks_of c) short image.rules.code others places h in (read.1, read.2);
         entered = parted (starts_in c.code) _ _ c.handler (starts_begin c.code (marks_of c) c.sealed is);
       } in
-      units_come (spelled c.code (marks_of c)) (are_built (units_in c.code)) first (inr units) refl
+      units_come (spelled c.code (marks_of c)) (inr units)
 
-  first_where : IsVersion c.version → (c.version == second_version) ≡ false → c.version ≡ first_version
-  first_where (inl first) is = first
-  first_where (inr second) is = absurd (other_version c.version second is)
-
-  first_comes : (b : Bool) → c.rewritten ≡ b → c.version ≡ first_version → ComesTo (prepared_first b c) file
-  first_comes true rewritten first = words_come (verify_refusal c.code (marks_of c) c.sealed) rewritten first refl
-  first_comes false original first = code_comes (refusal c.code (marks_of c) c.sealed) original first refl
-
-  contents_come : (b : Bool) → (c.version == second_version) ≡ b → ComesTo (prepared_contents b c) file
-  contents_come true is = record { contents = c; image = image; holds = inl (grind (arith, nat_tests)) }
-  contents_come false is = first_comes c.rewritten refl (first_where image.rules.version is)
+  contents_come : (b : Bool) → c.rewritten ≡ b → ComesTo (prepared_contents b c) file
+  contents_come true rewritten = words_come (verify_refusal c.code (marks_of c) c.sealed) rewritten refl
+  contents_come false original = code_comes (refusal c.code (marks_of c) c.sealed) original refl
 
 file_comes : (file : List ℕ) (r : Result Contents ImageError) → ((i : ℕ) → get_or file i 0 < 256) → image_of file ≡ r → ComesTo (prepared_image r) file
 file_comes file (Err e) bytes is = λ c image. let read = image_read file (image_of file) c refl image in cc
-file_comes file (Ok c) bytes is = contents_come file c (image_takes file c bytes is) (c.version == second_version) refl
+file_comes file (Ok c) bytes is = contents_come file c (image_takes file c bytes is) c.rewritten refl
 
 byte_below : (file : List ℕ) → AllByRecursion (λ b. b < 256) file → (i : ℕ) → get_or file i 0 < 256
 byte_below [] h i = omega arith

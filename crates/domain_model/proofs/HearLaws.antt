@@ -1,22 +1,22 @@
 -- A packet that comes keeps kernel and runner good: it brings one message at most, with a block that was free.
-use Rattle.std.proofs.Common.{◌≡◌, ℕ, ◌+◌, ◌-◌, ◌^◌, ◌<◌, ◌≤◌, ◌==◌, nat_lt, inl, inr, List, length, Bool, true, false, refl, ◌∙◌, arith, Option, Some, None}
+use Rattle.std.proofs.Common.{◌≡◌, ℕ, ◌+◌, ◌-◌, ◌^◌, ◌<◌, ◌≤◌, ◌==◌, nat_lt, inl, inr, List, length, Bool, true, false, refl, ◌∙◌, arith, Option, Some, None, is_some}
 use Rattle.std.specs.List.{list_any}
-use Rattle.std.proofs.lemmas.List.{length-append, length-take, length-drop}
-use Rattle.mote_base.specs.Messages.{Lists, in_order, appended, queue_limit}
+use Rattle.mote_base.specs.Messages.{Lists, in_order, front, appended, queue_limit}
 use Rattle.mote_layout.specs.Memory.{ram_start, kernel}
 use Rattle.mote_layout.specs.Parcels.{Payload}
 use Rattle.mote_layout.specs.declared.segment.Segment.{Segment}
 use Rattle.domain_model.specs.declared.event.Packet.{Packet}
-use Rattle.domain_model.specs.State.{Message, KernelState, RunnerState, payload_address, with_bytes}
+use Rattle.domain_model.specs.State.{Message, KernelState, RunnerState, payload_address}
 use Rattle.domain_model.specs.Modules.{is_loaded}
-use Rattle.domain_model.specs.Payloads.{IsAsLong}
+use Rattle.domain_model.specs.Payloads.{constants_kept, IsAsLong}
 use Rattle.domain_model.specs.Given.{Given, given, with_given}
 use Rattle.domain_model.specs.Radio.{Hearing, message_by_radio, queued, filled, payload_in, heard_given, heard_bytes, heard_where, heard_by, heard}
 use Rattle.domain_model.specs.Turn.{hear}
 use Rattle.domain_model.specs.Good.{GoodProcessor, GoodMachine, IsKnown, IsPacket}
 use Rattle.domain_model.proofs.ByteLists.{put_bytes}
-use Rattle.domain_model.proofs.BlockLaws.{GoodGiven, given_good, given_gains, given_within}
+use Rattle.domain_model.proofs.BlockLaws.{put_length, GoodGiven, given_good, given_gains, given_within}
 use Rattle.domain_model.proofs.PayloadLaws.{payloads_posted, payloads_gained}
+use Rattle.domain_model.proofs.ClockLaws.{appended_waits}
 use Rattle.domain_model.proofs.ActLaws.{is_unload, one_more}
 use Rattle.domain_model.proofs.MachineLaws.{handler_kept, queues_posted}
 
@@ -28,17 +28,18 @@ with_heard k memory blocks queues = record k { processor = record k.processor { 
 pub record Hears (k : KernelState) (got : Hearing) : Type 0 where
   pub alone : got.kernel ≡ with_heard k got.kernel.processor.memory got.kernel.blocks got.kernel.queues
   pub more : length (in_order got.kernel.queues) ≤ length (in_order k.queues) + 1
+  pub waits : is_some (front k.queues) ≡ true → is_some (front got.kernel.queues) ≡ true
   pub few : length got.lines ≤ 1
   pub quiet : list_any is_unload got.lines ≡ false
 
 queued_hears : (p : Packet) (load : Option Payload) (k : KernelState) → Hears k (queued p load k)
-queued_hears p load k = record { alone = refl; more = one_more false (message_by_radio p load) k; few = omega arith; quiet = refl }
+queued_hears p load k = record { alone = refl; more = one_more false (message_by_radio p load) k; waits = λ some. appended_waits false (message_by_radio p load) k.queues; few = omega arith; quiet = refl }
 
 given_hears : (o : Option Given) (p : Packet) (k : KernelState) → Hears k (heard_given o p k)
-given_hears None p k = record { alone = refl; more = omega arith; few = omega arith; quiet = refl }
+given_hears None p k = record { alone = refl; more = omega arith; waits = λ some. some; few = omega arith; quiet = refl }
 given_hears (Some g) p k =
     let more = queued_hears p (Some (payload_in p g)) (with_given k (filled p g)) in
-    record { alone = refl; more = more.more; few = omega arith; quiet = refl }
+    record { alone = refl; more = more.more; waits = more.waits; few = omega arith; quiet = refl }
 
 bytes_hears : (b : Bool) (p : Packet) (k : KernelState) → Hears k (heard_bytes b p k)
 bytes_hears true p k = queued_hears p None k
@@ -46,11 +47,11 @@ bytes_hears false p k = given_hears (given k kernel (length p.bytes)) p k
 
 where_hears : (b : Bool) (p : Packet) (k : KernelState) → Hears k (heard_where b p k)
 where_hears true p k = bytes_hears (length p.bytes == 0) p k
-where_hears false p k = record { alone = refl; more = omega arith; few = omega arith; quiet = refl }
+where_hears false p k = record { alone = refl; more = omega arith; waits = λ some. some; few = omega arith; quiet = refl }
 
 by_hears : (b : Bool) (p : Packet) (k : KernelState) → Hears k (heard_by b p k)
 by_hears true p k = where_hears (nat_lt (length k.queues.low) queue_limit) p k
-by_hears false p k = record { alone = refl; more = omega arith; few = omega arith; quiet = refl }
+by_hears false p k = record { alone = refl; more = omega arith; waits = λ some. some; few = omega arith; quiet = refl }
 
 pub packet_hears : (p : Packet) (k : KernelState) → Hears k (heard p k)
 packet_hears p k = by_hears (is_loaded k.modules p.to) p k
@@ -60,13 +61,14 @@ pub record HearsFirst (k : KernelState) (r : RunnerState) (o : Option Packet) : 
   pub alone : (hear o k r).kernel ≡ with_heard k (hear o k r).kernel.processor.memory (hear o k r).kernel.blocks (hear o k r).kernel.queues
   pub runner : (hear o k r).runner ≡ r
   pub more : length (in_order (hear o k r).kernel.queues) ≤ length (in_order k.queues) + 1
+  pub waits : is_some (front k.queues) ≡ true → is_some (front (hear o k r).kernel.queues) ≡ true
   pub quiet : list_any is_unload (hear o k r).lines ≡ false
 
 pub first_hears : (o : Option Packet) (k : KernelState) (r : RunnerState) → HearsFirst k r o
-first_hears None k r = record { alone = refl; runner = refl; more = omega arith; quiet = refl }
+first_hears None k r = record { alone = refl; runner = refl; more = omega arith; waits = λ some. some; quiet = refl }
 first_hears (Some p) k r =
     let h = packet_hears p k in
-    record { alone = h.alone; runner = refl; more = h.more; quiet = h.quiet }
+    record { alone = h.alone; runner = refl; more = h.more; waits = h.waits; quiet = h.quiet }
 
 -- Good.
 
@@ -85,10 +87,6 @@ known_by_radio k p load packet there small long = record {
   };
   load = long;
 }
-
--- bytes that are put leave the length
-pub put_length : (memory : List ℕ) (place : ℕ) (bytes : List ℕ) → place + length bytes ≤ length memory → length (with_bytes memory place bytes) ≡ length memory
-put_length memory place bytes h = simp (length-append, length-take, length-drop) (omega (arith, h))
 
 module _ (k : KernelState) (r : RunnerState) (p : Packet) (h : GoodMachine k r) (packet : IsPacket p) where
   bytes_good : (g : Given) → GoodGiven k kernel g → given k kernel (length p.bytes) ≡ Some g → GoodProcessor (record k.processor { memory = (filled p g).memory })
@@ -118,8 +116,9 @@ module _ (k : KernelState) (r : RunnerState) (p : Packet) (h : GoodMachine k r) 
         blocks = good.blocks;
         owners = good.owners k.modules h.owners (inl refl);
         queues = queues_posted k.modules false m k.queues (known_by_radio k p (Some (payload_in p g)) packet there (omega (arith, good.address)) refl) room h.queues;
-        payloads = payloads_gained k.blocks g.blocks k.queues k.hand m (payload_in p g) refl (given_gains k (length p.bytes) g h.blocks e) h.payloads;
-        handler = handler_kept k.running k (record now { queues = appended false m k.queues }) r refl refl refl refl h.handler;
+        timers = h.timers;
+        payloads = payloads_gained k.blocks g.blocks k.queues k.hand (constants_kept k.modules) m (payload_in p g) refl (given_gains k (length p.bytes) g h.blocks e) h.payloads;
+        handler = handler_kept k.running k (record now { queues = appended false m k.queues }) r refl refl refl refl refl h.handler;
       }
 
   bytes_heard : (b : Bool) → is_loaded k.modules p.to ≡ true → nat_lt (length k.queues.low) queue_limit ≡ true → GoodMachine (heard_bytes b p k).kernel r
@@ -133,8 +132,9 @@ module _ (k : KernelState) (r : RunnerState) (p : Packet) (h : GoodMachine k r) 
         blocks = h.blocks;
         owners = h.owners;
         queues = queues_posted k.modules false m k.queues (known_by_radio k p None packet there (omega arith) tt) room h.queues;
-        payloads = payloads_posted k.blocks k.queues k.hand m refl h.payloads;
-        handler = handler_kept k.running k (record k { queues = appended false m k.queues }) r refl refl refl refl h.handler;
+        timers = h.timers;
+        payloads = payloads_posted k.blocks k.queues k.hand (constants_kept k.modules) m refl h.payloads;
+        handler = handler_kept k.running k (record k { queues = appended false m k.queues }) r refl refl refl refl refl h.handler;
       }
   bytes_heard false there room = given_heard (given k kernel (length p.bytes)) there room refl
 

@@ -16,7 +16,7 @@ use Rattle.mote_layout.specs.declared.page.Entry.{Entry}
 use Rattle.mote_layout.specs.declared.page.Entry.TheVariants.{Kernel, Slot}
 use Rattle.unit_code.specs.declared.kinds.Standing.TheVariants.{Barred}
 use Rattle.unit_code.specs.declared.unit.Unit.{Unit as CodeUnit}
-use Rattle.unit_code.specs.declared.unit.Unit.TheVariants.{Plain, Store, Reserve, Skip, KernelCall, SlotCall}
+use Rattle.unit_code.specs.declared.unit.Unit.TheVariants.{Plain, Store, Load, Reserve, Skip, KernelCall, SlotCall}
 use Rattle.unit_code.specs.Kinds.{whole, off_pointer, is_spl_or_sph, is_sreg, standing_of, standing_in, standing_out, standing_entry, standing_call, standing_rcall}
 use Rattle.unit_code.specs.Proper.{IsOfKind}
 use Rattle.domain_model.specs.State.{Processor, at_counter, register}
@@ -148,6 +148,10 @@ store_is_straight (Call k) h = absurd (call_is_call k _ h.0)
 store_is_straight (Rcall k) h = let reserve = rcall_is_reserve k _ h.0 in absurd (cc)
 store_is_straight _ h = search rules
 
+-- and a checked load
+pub load_is_straight : (i : Instr) → IsOfKind (Load i) → IsStraight i
+load_is_straight i h = plain_is_straight i (h.0, h.2)
+
 -- and that of a skip can pass over the next one
 pub skip_is_skip : (i : Instr) → IsOfKind (Skip i) → IsSkip i
 unfolding standing_of IsSkip
@@ -173,7 +177,7 @@ skip_is_skip (Rcall k) h = let reserve = rcall_is_reserve k _ h.0 in absurd (cc)
 skip_is_skip _ h = search rules
 
 pub units_are_of_their_sorts : UnitsAreOfTheirSorts
-units_are_of_their_sorts = record { plain = plain_is_straight; store = store_is_straight; skip = skip_is_skip }
+units_are_of_their_sorts = record { plain = plain_is_straight; store = store_is_straight; load = load_is_straight; skip = skip_is_skip }
 
 -- Skips.
 

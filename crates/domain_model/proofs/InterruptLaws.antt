@@ -1,16 +1,20 @@
--- A packet that comes leaves all but the queue and a block that was free.
+-- A packet that comes leaves all but the queue and a block that was free, and a timer that fires all but the timers and the queue.
 use Rattle.std.proofs.Common.{◌≡◌, ◌≢◌, ◌⊎◌, ℕ, ◌+◌, ◌-◌, ◌*◌, ◌<◌, ◌≤◌, ◌==◌, ◌++◌, nat_lt, inl, inr, List, length, take, drop, Bool, true, false, refl, sym, ap, ◌∙◌, subst, arith, Option, Some, None, slice_get}
 use Rattle.std.specs.Prelude.{slice_index}
 use Rattle.std.proofs.Math.ListN.{get_or-append}
 use Rattle.std.proofs.lemmas.Bool.{cases_eq, cases_lt, cases_Bool}
 use Rattle.std.proofs.lemmas.List.{get_or-append_right, get_or-drop, get_or-take, length-take-le}
 use Rattle.mote_base.specs.Messages.{Lists, queue_limit}
+use Rattle.std.specs.List.{AllByRecursion}
+use Rattle.mote_base.specs.Timers.{is_of, after_firing}
+use Rattle.mote_base.specs.declared.timer.Timer.{Timer}
 use Rattle.mote_layout.specs.Memory.{ram_start, ram_bytes, block_bytes, kernel}
 use Rattle.mote_layout.specs.Blocks.{owns}
 use Rattle.mote_layout.specs.Fit.{blocks_for}
 use Rattle.mote_layout.specs.Requests.{address_for, served}
 use Rattle.mote_layout.specs.declared.segment.Segment.{Segment}
-use Rattle.domain_model.specs.declared.event.Choice.TheVariants.{Hears}
+use Rattle.domain_model.specs.declared.event.Choice.{Choice}
+use Rattle.domain_model.specs.declared.event.Choice.TheVariants.{Hears, Fires}
 use Rattle.domain_model.specs.declared.event.Packet.{Packet}
 use Rattle.domain_model.specs.declared.line.TraceLine.{TraceLine}
 use Rattle.domain_model.specs.State.{Processor, Message, KernelState, RunnerState, State, with_bytes, with_zeros}
@@ -18,14 +22,20 @@ use Rattle.domain_model.specs.Modules.{is_loaded}
 use Rattle.domain_model.specs.Given.{given_at}
 use Rattle.domain_model.specs.Free.{SameState, with_memory, is_kernel_byte}
 use Rattle.domain_model.specs.Radio.{message_by_radio, heard_given, heard_bytes, heard_where, heard_by}
+use Rattle.domain_model.specs.Firing.{fired}
+use Rattle.domain_model.specs.Facts.{Facts}
 use Rattle.domain_model.specs.Act.{act}
 use Rattle.domain_model.specs.Turn.{hear, made, Turn}
-use Rattle.domain_model.specs.Good.{Good}
-use Rattle.domain_model.specs.Laws.{IsNewlyKernels, IsOneMore, none_more, one_more, Interrupted, InterruptsAlone}
+use Rattle.domain_model.specs.Good.{GoodTimer, Good}
+use Rattle.domain_model.specs.Laws.{IsNewlyKernels, IsOneMore, none_more, one_more, Interrupted, IsOneReminder, Reminded, InterruptsAlone}
 use Rattle.domain_model.proofs.StackLaws.{zeros_within}
 use Rattle.domain_model.proofs.BlockLaws.{zeros_length}
 use Rattle.domain_model.proofs.OwningLaws.{served_out}
 use Rattle.domain_model.proofs.ConfinedLaws.{kernel_byte_at}
+use Rattle.domain_model.proofs.ChoiceLaws.{choice_facts}
+use Rattle.domain_model.proofs.Kept.{each_at}
+use Rattle.domain_model.proofs.TimerLaws.{first_least, fires_once}
+use Rattle.domain_model.proofs.FiringLaws.{timer_reminds}
 
 -- bytes that are put change none before them and none behind them
 put_within : (xs : List ℕ) (place : ℕ) (bytes : List ℕ) (i : ℕ) → place ≤ length xs → slice_index (with_bytes xs place bytes) i ≢ slice_index xs i → (place ≤ i) × (i < place + length bytes)
@@ -143,7 +153,48 @@ interrupted_by s t g to =
       rest = to.rest ∙ ap (λ (r : RunnerState). record s { kernel = t.kernel; runner = r; packets = drop 1 s.packets }) leaves.1;
     }
 
+-- A timer that fires leaves more: all but the high list, the timers and the kernel's own bytes.
+reminded_by : (s t : State) (timer : Timer) → Good s → slice_get s.kernel.timers 0 ≡ Some timer → timer.due ≤ s.kernel.clock → SameState is_kernel_byte (made Fires s (act s.kernel s.runner)).state t → Reminded s t
+reminded_by s t timer g first due to =
+    let reminds = timer_reminds s.kernel timer first due in
+    let n : KernelState = (fired s.kernel).kernel in
+    let memory : List ℕ = t.kernel.processor.memory in
+    let now : List Timer = after_firing s.kernel.clock s.kernel.timers in
+    let same : t.kernel ≡ with_memory n memory = to.kernel.rest in
+    let as_was : n.processor ≡ s.kernel.processor = ap (λ (k : KernelState). k.processor) reminds.alone in
+    let processor : t.kernel.processor ≡ record s.kernel.processor { memory = memory }
+    = ap (λ (k : KernelState). k.processor) same ∙ ap (λ (p : Processor). record p { memory = memory }) as_was in
+    let queues : t.kernel.queues ≡ n.queues = ap (λ (k : KernelState). k.queues) same in
+    let timers : t.kernel.timers ≡ now = ap (λ (k : KernelState). k.timers) same ∙ ap (λ (k : KernelState). k.timers) reminds.alone in
+    record {
+      timer = timer;
+      first = first;
+      due = due;
+      least = first_least s.kernel.timers timer first g.machine.timers.order;
+      once = subst (AllByRecursion (λ (u : Timer). is_of timer.«module» timer.id u ≡ true → s.kernel.clock < u.due)) (sym timers)
+          (fires_once s.kernel.clock s.kernel.timers timer first due (each_at (GoodTimer s.kernel.modules s.kernel.clock) s.kernel.timers 0 timer g.machine.timers.each first).ticks.0
+          g.machine.timers.apart);
+      processor = processor;
+      memory = λ i differs.
+          elim (cases_Bool (is_kernel_byte (i + ram_start))) [
+            | inl own ↦ kernel_byte_at (i + ram_start) own
+            | inr kept ↦ absurd (differs (to.kernel.memory.same i kept ∙ ap (λ (p : Processor). slice_index p.memory i) as_was))
+          ];
+      queues = subst (IsOneReminder s.kernel.queues timer) (sym queues) reminds.reminder;
+      timers = timers;
+      kernel_rest =
+          same ∙ ap (λ (k : KernelState). with_memory k memory) reminds.alone
+          ∙ ap (λ (p : Processor). record s.kernel { processor = p; queues = n.queues; timers = now }) (sym processor)
+          ∙ ap (λ (q : Lists Message). record s.kernel { processor = t.kernel.processor; queues = q; timers = now }) (sym queues)
+          ∙ ap (λ (ts : List Timer). record s.kernel { processor = t.kernel.processor; queues = t.kernel.queues; timers = ts }) (sym timers);
+      rest = to.rest;
+    }
+
 pub turn_interrupts : (s t : State) (lines : List TraceLine) → Good s → Turn s t lines → InterruptsAlone s t
-turn_interrupts s t lines g turn e =
-    let to : SameState is_kernel_byte (made Hears s turn.got).state t = rw e at turn.to in
-    interrupted_by s t g to
+turn_interrupts s t lines g turn = (
+  λ e. let to : SameState is_kernel_byte (made Hears s turn.got).state t = rw e at turn.to in interrupted_by s t g to,
+  λ e.
+      let facts : Facts Fires s = subst (λ (c : Choice). Facts c s) e (choice_facts s) in
+      let to : SameState is_kernel_byte (made Fires s turn.got).state t = rw e at turn.to in
+      reminded_by s t facts.timer g facts.first facts.due to,
+)

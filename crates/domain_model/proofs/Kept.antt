@@ -11,7 +11,7 @@ module _ {X : Type 0} where
   each_weaker P Q f [] h = tt
   each_weaker P Q f (x ∷ xs) h = (f x h.0, each_weaker P Q f xs h.1)
 
-  each_where : (Q : X → Type 0) (b : Bool) (x : X) (xs : List X) → (b ≡ true → Q x) → AllByRecursion Q xs → AllByRecursion Q (cond b (x ∷ xs) xs)
+  pub each_where : (Q : X → Type 0) (b : Bool) (x : X) (xs : List X) → (b ≡ true → Q x) → AllByRecursion Q xs → AllByRecursion Q (cond b (x ∷ xs) xs)
   each_where Q true x xs f h = (f refl, h)
   each_where Q false x xs f h = h
 

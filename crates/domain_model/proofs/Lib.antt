@@ -3,17 +3,24 @@ pub mod ByteLists
 pub mod TimeLaws
 pub mod ChoiceLaws
 pub mod ModuleLaws
+pub mod TimerLaws
+pub mod ClockLaws
+pub mod DueLaws
 pub mod PayloadLaws
 pub mod BlockLaws
+pub mod ConstantsLaws
 pub mod UnitLaws
 pub mod InstructionLaws
 pub mod WriteLaws
 pub mod StackLaws
+pub mod CallLaws
 pub mod ActLaws
 pub mod MachineLaws
 pub mod UnitsKept
 pub mod SegmentLaws
+pub mod PurgeLaws
 pub mod HearLaws
+pub mod FiringLaws
 pub mod DumpLaws
 pub mod CloseLaws
 pub mod OwningLaws
@@ -31,3 +38,4 @@ pub mod LawfulLaws
 pub mod FileLaws
 pub mod RanLaws
 pub mod CommandLaws
+mod WorkedRows

@@ -1,12 +1,12 @@
 -- The list of loaded modules: which domains and ids it has, and that no two modules share one.
-use Rattle.std.proofs.Common.{◌≡◌, ◌≢◌, ℕ, ◌⊎◌, inl, inr, ◌==◌, List, [], ◌∷◌, ◌++◌, filter, not, Bool, true, false, refl, sym, ap, subst, ◌∙◌, Option, Some, None}
+use Rattle.std.proofs.Common.{◌≡◌, ◌≢◌, ℕ, ◌⊎◌, inl, inr, ◌==◌, List, [], ◌∷◌, ◌++◌, filter, not, Bool, true, false, refl, sym, ap, subst, ◌∙◌, Option, Some}
 use Rattle.std.specs.List.{AllByRecursion, Contains}
 use Rattle.std.specs.Option.{option_map_or}
 use Rattle.std.proofs.lemmas.Bool.{cases_Bool, cond-true, cond-false, cond_both, eqb-true, eqb-false, eq-eqb, ne_eqb, or_parts, not-true, not_from_false}
 use Rattle.std.proofs.lemmas.Option.{none-some, same_Some}
 use Rattle.std.proofs.lemmas.Map.Views.{any-filter_same}
 use Rattle.domain_model.specs.State.{Loaded}
-use Rattle.domain_model.specs.Modules.{module_at, id_at, is_loaded, in_use, module_named, without_domain}
+use Rattle.domain_model.specs.Modules.{module_at, id_at, constants_at, is_loaded, in_use, module_named, without_domain}
 use Rattle.domain_model.specs.Good.{IsApart, AreDistinct}
 use Rattle.domain_model.proofs.Kept.{each_filter, each_push, each_contained, contained_nowhere, contained_first, contained_later, contained_cases, contained_filter, filter_contained, any_old, any_new, any_contained}
 
@@ -164,12 +164,12 @@ id_at_row modules row d c =
     let f = found modules row.domain (contained_in_use modules row c) in
     found_id modules row.domain f ∙ ap (λ (m : Loaded). m.face.id) (same_module modules f.row row d f.contained c (inr f.domain_of))
 
--- the module of that id in a loaded domain is the domain's
-pub row_of_domain : (modules : List Loaded) (domain : ℕ) (m : Loaded) → AreDistinct modules → in_use modules domain ≡ true → Contains modules m → id_at modules domain ≡ m.face.id → m.domain ≡ domain
-row_of_domain modules domain m d used c e =
-    let f = found modules domain used in
-    let same = same_module modules m f.row d c f.contained (inl (sym e ∙ found_id modules domain f)) in
-    ap (λ (x : Loaded). x.domain) same ∙ f.domain_of
+-- and its constants
+pub constants_at_row : (modules : List Loaded) (row : Loaded) → AreDistinct modules → Contains modules row → constants_at modules row.domain ≡ row.constants
+constants_at_row modules row d c =
+    let f = found modules row.domain (contained_in_use modules row c) in
+    ap (λ (o : Option Loaded). option_map_or (λ (m : Loaded). m.constants) o 0) f.at
+    ∙ ap (λ (m : Loaded). m.constants) (same_module modules f.row row d f.contained c (inr f.domain_of))
 
 -- loaded ids stay loaded where a module comes in
 pub is_loaded_old : (modules : List Loaded) (row : Loaded) (id : ℕ) → is_loaded modules id ≡ true → is_loaded (modules ++ row ∷ []) id ≡ true
@@ -185,14 +185,3 @@ is_loaded_without modules row id d c ne h =
     any_contained (λ (n : Loaded). n.face.id == id) (without_domain row.domain modules) found.0
     (filter_contained (λ (n : Loaded). not (n.domain == row.domain)) modules found.0 m.contained (not_from_false (found.0.domain == row.domain) (ne_eqb found.0.domain row.domain apart)))
     (eq-eqb found.0.face.id id m.id_of)
-
--- the id of a module that went out is found no more
-pub named_without : (modules : List Loaded) (row : Loaded) → AreDistinct modules → Contains modules row → module_named (without_domain row.domain modules) row.face.id ≡ None
-named_without modules row d c = none_named (module_named (without_domain row.domain modules) row.face.id) refl
-  where
-    none_named : (o : Option Loaded) → module_named (without_domain row.domain modules) row.face.id ≡ o → o ≡ None
-    none_named None e = refl
-    none_named (Some m) e =
-        let n = named (without_domain row.domain modules) row.face.id m e in
-        let kept = contained_without modules row.domain m n.contained in
-        absurd (kept.1 (ap (λ (x : Loaded). x.domain) (same_module modules m row d kept.0 c (inl n.id_of))))

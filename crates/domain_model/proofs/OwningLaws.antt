@@ -22,11 +22,14 @@ use Rattle.domain_model.specs.declared.handler.Running.{Running}
 use Rattle.domain_model.specs.declared.fault.FaultNote.{FaultNote}
 use Rattle.domain_model.specs.declared.fault.Served.TheVariants.{Back, Fault}
 use Rattle.domain_model.specs.State.{Processor, Message, Loaded, KernelState, register, pair, with_pair, with_zeros}
-use Rattle.domain_model.specs.Units.{Service, Malloc, Free, ChangeOwn, PostShort, PostLong, Take, Say, Clock, Send, MyId}
+use Rattle.mote_base.specs.Timers.{without_module, started, without as without_timer}
+use Rattle.mote_base.specs.declared.timer.Timer.{Timer}
+use Rattle.domain_model.proofs.TimerLaws.{others_started, others_stopped}
+use Rattle.domain_model.specs.Services.{Service, Malloc, Free, ChangeOwn, PostShort, PostLong, Take, TimerStart, TimerStop, Say, Clock, Send, MyId}
 use Rattle.domain_model.specs.Modules.{id_at, is_loaded, module_named}
 use Rattle.domain_model.specs.Payloads.{holds_bytes, load_of, IsHeld}
 use Rattle.domain_model.specs.Given.{given_at}
-use Rattle.domain_model.specs.Calls.{not_owned, answered, malloc_given, free_held, changed_to, change_held, message_of, post_where, post_to, long_message_of, carrying, long_where, long_to, long_held, payload_taken, take_by, take_hand, send_within, send_held, serve}
+use Rattle.domain_model.specs.Calls.{not_owned, answered, malloc_given, free_held, changed_to, change_held, message_of, post_where, post_to, long_message_of, carrying, long_where, long_to, long_held, payload_taken, take_by, take_hand, send_within, send_held, timer_of, serve}
 use Rattle.domain_model.specs.Others.{LeavesOthers, TakesPayload, BlockArgument, block_argument, IsRefused, CallsLeaveOthers, RefusedCallsChangeNothing, OwnBlocksAreServed}
 use Rattle.domain_model.proofs.BlockLaws.{is_placed, bytes_held, holds_none, holds_bytes-true}
 use Rattle.domain_model.proofs.StackLaws.{zeros_within}
@@ -252,6 +255,7 @@ module _ (run : Running) (k : KernelState) (fit : AreBlocks k.blocks) (whole : l
     kept = λ owner a other o. inl (kept owner a other o);
     handed = handed;
     hand = inl refl;
+    timers = refl;
     rest = refl;
   }
 
@@ -269,6 +273,20 @@ module _ (run : Running) (k : KernelState) (fit : AreBlocks k.blocks) (whole : l
     kept = λ owner a other o. inl o;
     handed = λ owner a other o. inl o;
     hand = inl refl;
+    timers = refl;
+    rest = refl;
+  }
+
+  -- a call for a timer
+  timers_leave : (timers : List Timer) (answer : ℕ) → without_module (id_at k.modules run.domain) timers ≡ without_module (id_at k.modules run.domain) k.timers → LeavesOthers k run (answered (record k { timers = timers }) answer)
+  timers_leave timers answer others = record {
+    registers = λ d first second. register_answered k.processor answer d first second;
+    status = (refl, refl);
+    memory = λ i differs. absurd (differs refl);
+    kept = λ owner a other o. inl o;
+    handed = λ owner a other o. inl o;
+    hand = inl refl;
+    timers = others;
     rest = refl;
   }
 
@@ -289,6 +307,7 @@ module _ (run : Running) (k : KernelState) (fit : AreBlocks k.blocks) (whole : l
         kept = λ owner a other o. inl (out.kept owner a o);
         handed = λ owner a other o. elim (out.old owner a o) [ inl new ↦ absurd (other new.0) | inr old ↦ inl old ];
         hand = inl refl;
+        timers = refl;
         rest = refl;
       }
 
@@ -375,6 +394,7 @@ module _ (run : Running) (k : KernelState) (fit : AreBlocks k.blocks) (whole : l
         handed = λ owner a other o.
             inl ((owns-true k.blocks owner a).1 (handed_old p.block run.domain owner a k.blocks other ((owns-true now owner a).0 o)));
         hand = inr takes;
+        timers = refl;
         rest = refl;
       }
 
@@ -402,6 +422,9 @@ module _ (run : Running) (k : KernelState) (fit : AreBlocks k.blocks) (whole : l
   serve_leaves (Some PostLong) =
       long_held_leaves (holds_bytes k.blocks run.domain (pair k.processor 18) (pair k.processor 20)) (long_message_of k run) (pair k.processor 18) refl
   serve_leaves (Some Take) = take_leaves k.hand refl
+  serve_leaves (Some TimerStart) = timers_leave (started (timer_of k run) k.timers) _ (others_started (timer_of k run) k.timers)
+  serve_leaves (Some TimerStop) =
+      timers_leave (without_timer (id_at k.modules run.domain) (register k.processor 24) k.timers) _ (others_stopped (id_at k.modules run.domain) (register k.processor 24) k.timers)
   serve_leaves (Some Say) = answer_leaves 0
   serve_leaves (Some Clock) = answer_leaves _
   serve_leaves (Some Send) = send_leaves (holds_bytes k.blocks run.domain (pair k.processor 18) (pair k.processor 20))
@@ -455,6 +478,8 @@ refused_calls_change_nothing (Some Send) run k note e =
 refused_calls_change_nothing (Some Malloc) run k note e = absurd (cc)
 refused_calls_change_nothing (Some PostShort) run k note e = absurd (cc)
 refused_calls_change_nothing (Some Take) run k note e = absurd (cc)
+refused_calls_change_nothing (Some TimerStart) run k note e = absurd (cc)
+refused_calls_change_nothing (Some TimerStop) run k note e = absurd (cc)
 refused_calls_change_nothing (Some Say) run k note e = absurd (cc)
 refused_calls_change_nothing (Some Clock) run k note e = absurd (cc)
 refused_calls_change_nothing (Some MyId) run k note e = absurd (cc)
@@ -485,6 +510,8 @@ own_blocks_are_served (Some Send) argument run k asks h =
 own_blocks_are_served (Some Malloc) argument run k asks h = refl
 own_blocks_are_served (Some PostShort) argument run k asks h = refl
 own_blocks_are_served (Some Take) argument run k asks h = refl
+own_blocks_are_served (Some TimerStart) argument run k asks h = refl
+own_blocks_are_served (Some TimerStop) argument run k asks h = refl
 own_blocks_are_served (Some Say) argument run k asks h = refl
 own_blocks_are_served (Some Clock) argument run k asks h = refl
 own_blocks_are_served (Some MyId) argument run k asks h = refl

@@ -1,6 +1,7 @@
 -- The machine itself writes no line of an instruction that a runner runs, and nothing but lines hangs on such lines.
 use Rattle.std.proofs.Common.{Ok, Err, ◌≡◌, ℕ, ◌==◌, nat_lt, nat_le, List, [], ◌∷◌, ◌++◌, length, Bool, true, false, not, refl, ap, subst, ◌∙◌, Option, Some, None, slice_get}
 use Rattle.std.proofs.lemmas.List.Elements.{filter-append}
+use Rattle.mote_base.specs.declared.frame.Frame.{Frame}
 use Rattle.mote_base.specs.Messages.{front, queue_limit}
 use Rattle.avr_isa.specs.declared.instruction.Instr.{Instr}
 use Rattle.avr_isa.specs.declared.instruction.Instr.TheVariants as instr
@@ -8,11 +9,11 @@ use Rattle.mote_layout.specs.Memory.{floor, kernel}
 use Rattle.mote_layout.specs.Limits.{payload_limit}
 use Rattle.mote_layout.specs.Requests.{holds}
 use Rattle.unit_code.specs.declared.unit.Unit.{Unit}
-use Rattle.unit_code.specs.declared.unit.Unit.TheVariants.{Plain, Store, Push, Pop, SpGroup, Reserve, Skip, Branch, Jump, KernelCall, Return}
+use Rattle.unit_code.specs.declared.unit.Unit.TheVariants.{Plain, Store, Load, Push, Pop, SpGroup, Reserve, Skip, Branch, Jump, LocalCall, KernelCall, SlotCall, SlotIndirect, Return}
 use Rattle.domain_model.specs.declared.event.LoaderOrder.{LoaderOrder}
 use Rattle.domain_model.specs.declared.event.LoaderOrder.TheVariants as what
 use Rattle.domain_model.specs.declared.event.Choice.{Choice}
-use Rattle.domain_model.specs.declared.event.Choice.TheVariants.{Stays, Hears, Comes, Dispatches, Jumps, Idles, Budgets, Watches, Acts}
+use Rattle.domain_model.specs.declared.event.Choice.TheVariants.{Stays, Hears, Fires, Comes, Dispatches, Jumps, Idles, Budgets, Watches, Acts}
 use Rattle.domain_model.specs.declared.fault.FaultNote.{FaultNote}
 use Rattle.domain_model.specs.declared.fault.Rule.{Rule}
 use Rattle.domain_model.specs.declared.fault.Rule.TheVariants as rule
@@ -25,16 +26,20 @@ use Rattle.domain_model.specs.declared.line.TraceLine.{TraceLine}
 use Rattle.domain_model.specs.declared.line.TraceLine.TheVariants as line
 use Rattle.domain_model.specs.Prepared.{Module, Prep}
 use Rattle.domain_model.specs.State.{Message, Loaded, KernelState, RunnerState, State, pair}
-use Rattle.domain_model.specs.Units.{Service, Malloc, Free, ChangeOwn, PostShort, PostLong, Take, Say, Clock, Send, MyId, service_of}
+use Rattle.domain_model.specs.Services.{Service, Malloc, Free, ChangeOwn, PostShort, PostLong, Take, TimerStart, TimerStop, Say, Clock, Send, MyId, service_of}
 use Rattle.domain_model.specs.Modules.{free_domain, is_loaded, module_named}
-use Rattle.domain_model.specs.Given.{Given, given}
+use Rattle.domain_model.specs.Given.{Given, given, with_given}
 use Rattle.domain_model.specs.Payloads.{holds_bytes}
 use Rattle.domain_model.specs.Dump.{dumped}
+use Rattle.mote_base.specs.Timers.{firing}
+use Rattle.mote_base.specs.declared.timer.Timer.{Timer}
+use Rattle.domain_model.specs.Firing.{fired_where, fired_by}
 use Rattle.domain_model.specs.Radio.{heard_given, heard_bytes, heard_where, heard_by}
 use Rattle.domain_model.specs.declared.event.Packet.{Packet}
 use Rattle.domain_model.specs.Calls.{Serving, change_held, free_held, long_message_of, long_held, send_within, send_held, serve}
-use Rattle.domain_model.specs.Act.{Acted, act, act_running, act_at, act_effect, act_under, act_group, act_reserve, act_skip, act_branch, act_return, act_served, act_call, passes, taken, group_sp, has_room, may_store, store_address, next_unit}
-use Rattle.domain_model.specs.Turn.{Moved, came, load_image, load_prepared, load_new, load_in, load_given, unload_module, deliver, dispatch, hear, close, close_module, faulted, settled, made, state_block, watchdog}
+use Rattle.domain_model.specs.Frames.{call_fault, indirect_slot, bound_at}
+use Rattle.domain_model.specs.Act.{Acted, act, act_running, act_at, act_effect, act_under, act_group, act_reserve, act_skip, act_branch, act_back, act_return, act_called, act_slot, act_indirect, act_served, act_call, passes, taken, group_sp, has_room, may_store, may_load, store_address, load_address, next_unit}
+use Rattle.domain_model.specs.Turn.{Moved, came, load_image, load_prepared, load_new, load_in, load_given, load_beside, constants_block, unload_module, deliver, dispatch, hear, close, close_module, faulted, settled, made, state_block, watchdog}
 use Rattle.domain_model.specs.Runners.{is_ran, without_ran, without_ran_lines}
 use Rattle.domain_model.proofs.DumpLaws.{each_dumped, filter_all}
 
@@ -67,9 +72,25 @@ quiet_branch : (b : Bool) (target : ℕ) (k : KernelState) (r : RunnerState) →
 quiet_branch true target k r = refl
 quiet_branch false target k r = refl
 
+quiet_back : (frames : List Frame) (k : KernelState) (r : RunnerState) → IsQuiet (act_back frames k r).lines
+quiet_back [] k r = refl
+quiet_back (f ∷ below) k r = refl
+
 quiet_return : (b : Bool) (k : KernelState) (r : RunnerState) → IsQuiet (act_return b k r).lines
-quiet_return true k r = refl
+quiet_return true k r = quiet_back k.frames k r
 quiet_return false k r = refl
+
+quiet_called : (fault : Option FaultNote) (entered : Acted) (k : KernelState) (r : RunnerState) → IsQuiet entered.lines → IsQuiet (act_called fault entered k r).lines
+quiet_called None entered k r quiet = quiet
+quiet_called (Some note) entered k r quiet = refl
+
+quiet_slot : (bound : Option (ℕ × ℕ)) (slot : ℕ) (run : Running) (k : KernelState) (r : RunnerState) → IsQuiet (act_slot bound slot run k r).lines
+quiet_slot None slot run k r = refl
+quiet_slot (Some (domain, place)) slot run k r = quiet_called (call_fault k) _ k r refl
+
+quiet_indirect : (slot : Option ℕ) (run : Running) (k : KernelState) (r : RunnerState) → IsQuiet (act_indirect slot run k r).lines
+quiet_indirect None run k r = refl
+quiet_indirect (Some slot) run k r = quiet_slot (bound_at k run slot) slot run k r
 
 quiet_free : (b : Bool) (address : ℕ) (k : KernelState) → IsQuiet (free_held b address k).lines
 quiet_free true address k = refl
@@ -99,6 +120,8 @@ quiet_serve (Some PostShort) run k = refl
 quiet_serve (Some PostLong) run k =
     quiet_long (holds_bytes k.blocks run.domain (pair k.processor 18) (pair k.processor 20)) (long_message_of k run) (pair k.processor 18) k
 quiet_serve (Some Take) run k = refl
+quiet_serve (Some TimerStart) run k = refl
+quiet_serve (Some TimerStop) run k = refl
 quiet_serve (Some Say) run k = refl
 quiet_serve (Some Clock) run k = refl
 quiet_serve (Some Send) run k = quiet_send (holds_bytes k.blocks run.domain (pair k.processor 18) (pair k.processor 20)) run k
@@ -116,6 +139,7 @@ quiet_at : (o : Option Unit) (run : Running) (k : KernelState) (r : RunnerState)
 quiet_at None run k r = refl
 quiet_at (Some (Plain i)) run k r = refl
 quiet_at (Some (Store i)) run k r = quiet_effect (may_store k run (store_address i k.processor)) rule.Store (store_address i k.processor) i k r
+quiet_at (Some (Load i)) run k r = quiet_effect (may_load k run (load_address i k.processor)) rule.Load (load_address i k.processor) i k r
 quiet_at (Some (Push s)) run k r = quiet_effect (nat_lt floor k.processor.sp) rule.StackOver k.processor.sp (instr.Push s) k r
 quiet_at (Some (Pop d)) run k r = quiet_effect (nat_lt k.processor.sp run.base) rule.StackUnder k.processor.sp (instr.Pop d) k r
 quiet_at (Some (SpGroup with_sreg)) run k r = quiet_group (nat_le floor (group_sp k.processor)) with_sreg run k r
@@ -124,8 +148,10 @@ quiet_at (Some (Skip i)) run k r = quiet_skip (passes i k.processor) k r
 quiet_at (Some (Branch set bit target)) run k r = quiet_branch (taken set bit k.processor) target k r
 quiet_at (Some (Jump target)) run k r = refl
 quiet_at (Some (KernelCall n)) run k r = quiet_call (serve (service_of n) run k) r (quiet_serve (service_of n) run k)
+quiet_at (Some (LocalCall target)) run k r = quiet_called (call_fault k) _ k r refl
+quiet_at (Some (SlotCall slot)) run k r = quiet_slot (bound_at k run slot) slot run k r
+quiet_at (Some SlotIndirect) run k r = quiet_indirect (indirect_slot k.processor) run k r
 quiet_at (Some Return) run k r = quiet_return (k.processor.sp == run.base) k r
-quiet_at (Some _) run k r = refl
 
 quiet_running : (o : Option Running) (k : KernelState) (r : RunnerState) → IsQuiet (act_running o k r).lines
 quiet_running None k r = refl
@@ -136,9 +162,13 @@ act_without_ran k r = quiet_running k.running k r
 
 -- A turn that isn't a unit.
 
+quiet_constants : (o : Option Given) (state : ℕ) (m : Module) (domain image : ℕ) (k : KernelState) (r : RunnerState) → IsQuiet (load_beside o state m domain image k r).lines
+quiet_constants None state m domain image k r = refl
+quiet_constants (Some c) state m domain image k r = refl
+
 quiet_given : (o : Option Given) (m : Module) (domain image : ℕ) (k : KernelState) (r : RunnerState) → IsQuiet (load_given o m domain image k r).lines
 quiet_given None m domain image k r = refl
-quiet_given (Some g) m domain image k r = refl
+quiet_given (Some g) m domain image k r = quiet_constants (constants_block (with_given k g) m.constants) g.address m domain image k r
 
 quiet_in : (o : Option ℕ) (m : Module) (image : ℕ) (k : KernelState) (r : RunnerState) → IsQuiet (load_in o m image k r).lines
 quiet_in None m image k r = refl
@@ -152,10 +182,9 @@ quiet_prepared : (prep : Prep) (image : ℕ) (k : KernelState) (r : RunnerState)
 quiet_prepared (Err refusal) image k r = refl
 quiet_prepared (Ok m) image k r = quiet_new (is_loaded k.modules m.face.id) m image k r
 
-quiet_image : (o : Option (Option Prep)) (image : ℕ) (k : KernelState) (r : RunnerState) → IsQuiet (load_image o image k r).lines
+quiet_image : (o : Option Prep) (image : ℕ) (k : KernelState) (r : RunnerState) → IsQuiet (load_image o image k r).lines
 quiet_image None image k r = refl
-quiet_image (Some None) image k r = refl
-quiet_image (Some (Some prep)) image k r = quiet_prepared prep image k r
+quiet_image (Some prep) image k r = quiet_prepared prep image k r
 
 quiet_unload : (o : Option Loaded) (id : ℕ) (k : KernelState) (r : RunnerState) → IsQuiet (unload_module o id k r).lines
 quiet_unload None id k r = refl
@@ -170,10 +199,11 @@ quiet_dump k =
       modules = λ id domain state. refl;
       blocks = λ address bytes owner. refl;
       messages = λ high from to sort address. refl;
+      timers = λ «module» id due. refl;
       last = refl;
     }) k)
 
-quiet_came : (images : List (Option Prep)) (w : LoaderOrder) (k : KernelState) (r : RunnerState) → IsQuiet (came images w k r).lines
+quiet_came : (images : List Prep) (w : LoaderOrder) (k : KernelState) (r : RunnerState) → IsQuiet (came images w k r).lines
 quiet_came images (what.Load n) k r = quiet_image (slice_get images n) n k r
 quiet_came images (what.Unload id) k r = quiet_unload (module_named k.modules id) id k r
 quiet_came images what.Dump k r = quiet_dump k
@@ -198,6 +228,15 @@ quiet_by false p k = refl
 quiet_hear : (o : Option Packet) (k : KernelState) (r : RunnerState) → IsQuiet (hear o k r).lines
 quiet_hear None k r = refl
 quiet_hear (Some p) k r = quiet_by (is_loaded k.modules p.to) p k
+
+-- a timer
+quiet_fired_where : (b : Bool) (t : Timer) (k : KernelState) → IsQuiet (fired_where b t k).lines
+quiet_fired_where true t k = refl
+quiet_fired_where false t k = refl
+
+quiet_fired : (o : Option Timer) (k : KernelState) → IsQuiet (fired_by o k).lines
+quiet_fired None k = refl
+quiet_fired (Some t) k = quiet_fired_where (nat_lt (length k.queues.high) queue_limit) t k
 
 quiet_deliver : (o : Option Loaded) (m : Message) (k : KernelState) (r : RunnerState) → IsQuiet (deliver o m k r).lines
 quiet_deliver None m k r = refl
@@ -246,6 +285,7 @@ alike_settled (Fault note) run k r all = alike_faulted note run k r all
 pub state_without_ran : (c : Choice) (s : State) (got : Acted) → (made c s got).state ≡ (made c s (without_ran_lines got)).state
 state_without_ran Stays s got = refl
 state_without_ran Hears s got = refl
+state_without_ran Fires s got = refl
 state_without_ran (Comes e) s got = refl
 state_without_ran Dispatches s got = refl
 state_without_ran (Jumps now) s got = refl
@@ -260,6 +300,7 @@ state_without_ran (Acts run) s got =
 pub lines_without_ran : (c : Choice) (s : State) (got : Acted) → without_ran (made c s got).lines ≡ (made c s (without_ran_lines got)).lines
 lines_without_ran Stays s got = refl
 lines_without_ran Hears s got = quiet_hear (slice_get s.packets 0) s.kernel s.runner
+lines_without_ran Fires s got = quiet_fired (firing s.kernel.clock s.kernel.timers) s.kernel
 lines_without_ran (Comes e) s got = quiet_came s.images e.what s.kernel s.runner
 lines_without_ran Dispatches s got = quiet_dispatch (front s.kernel.queues) s.kernel s.runner
 lines_without_ran (Jumps now) s got = refl

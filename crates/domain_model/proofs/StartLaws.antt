@@ -1,5 +1,5 @@
 -- A run begins in a good state.
-use Rattle.std.proofs.Common.{ℕ, ◌≤◌, List, map, refl, arith, Option}
+use Rattle.std.proofs.Common.{ℕ, ◌≤◌, List, map, refl, arith}
 use Rattle.std.specs.List.{AllByRecursion}
 use Rattle.mote_layout.specs.Limits.{unit_limit, handler_limit}
 use Rattle.mote_layout.specs.Memory.{register_count, ram_bytes}
@@ -13,7 +13,7 @@ use Rattle.domain_model.specs.Good.{Good, IsGoodImage, ArePackets, AreTimes}
 use Rattle.domain_model.proofs.ByteLists.{bytes_zeros}
 use Rattle.domain_model.proofs.TurnLaws.{same_state_good}
 
-pub begins_good : (images : List (Option Prep)) (packets : List Packet) (events : List LoaderEvent) (units handler : ℕ) → AllByRecursion IsGoodImage images → ArePackets packets → AreTimes (packet_times packets) → AreTimes (event_times events) → units ≤ unit_limit → 1 ≤ handler → handler ≤ handler_limit → Good (begins images packets events units handler)
+pub begins_good : (images : List Prep) (packets : List Packet) (events : List LoaderEvent) (units handler : ℕ) → AllByRecursion IsGoodImage images → ArePackets packets → AreTimes (packet_times packets) → AreTimes (event_times events) → units ≤ unit_limit → 1 ≤ handler → handler ≤ handler_limit → Good (begins images packets events units handler)
 unfolding no_memory
 begins_good images packets events units handler good heard heard_times times most least highest = record {
   machine = record {
@@ -24,8 +24,9 @@ begins_good images packets events units handler good heard heard_times times mos
     blocks = tt;
     owners = tt;
     queues = record { within = (omega arith, omega arith); high = tt; low = tt };
-    payloads = record { once = λ b. refl; high = tt; low = tt; in_hand = tt };
-    handler = (refl, refl);
+    timers = record { few = omega arith; order = tt; apart = tt; each = tt };
+    payloads = record { once = λ b. refl; high = tt; low = tt; in_hand = tt; beside = tt };
+    handler = (refl, refl, refl);
   };
   images = good;
   packets = heard;

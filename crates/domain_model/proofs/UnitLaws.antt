@@ -1,7 +1,7 @@
--- Lists of units that may be loaded: each unit is built, of its kind and leads to a unit, there are no more units than words in a
+-- Lists of units that may be loaded: each unit is of its kind and leads to a unit, there are no more units than words in a
 -- bank, and behind a unit that control goes on from stands another.
 use Rattle.std.proofs.Common.{◌≡◌, ℕ, zero, suc, ◌+◌, ◌<◌, ◌≤◌, not, List, [], ◌∷◌, length, Bool, true, false, sym, ap, ◌∙◌, subst, arith, Option, Some, None, slice_get}
-use Rattle.std.proofs.lemmas.Bool.{and_parts, true≢false}
+use Rattle.std.proofs.lemmas.Bool.{true≢false}
 use Rattle.std.proofs.lemmas.Option.{none-some, same_Some}
 use Rattle.std.proofs.lemmas.List.Sums.{sum_by-cons}
 use Rattle.avr_isa.specs.declared.instruction.Instr.{Instr}
@@ -14,26 +14,17 @@ use Rattle.unit_code.specs.declared.unit.Shape.TheVariants.{Long}
 use Rattle.unit_code.specs.Ends.{leaves, goes_on, long_length}
 use Rattle.unit_code.specs.Lengths.{spelled_length}
 use Rattle.unit_code.specs.Proper.{CanBeSkipped, IsOfKind, IsProper, LeadsBelow, SkipsAreSound, SkipsTo}
-use Rattle.domain_model.specs.Units.{is_built, are_built, IsBuilt, AreProper}
 use Rattle.domain_model.proofs.Kept.{each_at}
 
 -- Units of such a list.
 
-pub proper_built : (us : List Unit) (sealed : Bool) → IsProper us sealed → are_built us ≡ true → AreProper us
-proper_built us sealed h e = record { sealed = sealed; proper = h; built = e }
-
-all_at : (us : List Unit) (i : ℕ) (u : Unit) → are_built us ≡ true → slice_get us i ≡ Some u → is_built u ≡ true
-all_at [] i u h e = absurd (none-some u e)
-all_at (x ∷ us) zero u h e = subst (λ (v : Unit). is_built v ≡ true) (same_Some x u e) (and_parts (is_built x) (are_built us) h).0
-all_at (x ∷ us) (suc i) u h e = all_at us i u (and_parts (is_built x) (are_built us) h).1 e
-
--- each is built
-pub built_at : (us : List Unit) (i : ℕ) (u : Unit) → AreProper us → slice_get us i ≡ Some u → IsBuilt u
-built_at us i u h e = record { kind = each_at IsOfKind us i u h.proper.kinds e; built = all_at us i u h.built e }
+-- each is of its kind
+pub kind_at : (us : List Unit) {sealed : Bool} (i : ℕ) (u : Unit) → IsProper us sealed → slice_get us i ≡ Some u → IsOfKind u
+kind_at us i u h e = each_at IsOfKind us i u h.kinds e
 
 -- each leads to a unit
-pub target_at : (us : List Unit) (i : ℕ) (u : Unit) → AreProper us → slice_get us i ≡ Some u → LeadsBelow (length us) u
-target_at us i u h e = each_at (LeadsBelow (length us)) us i u h.proper.targets e
+pub target_at : (us : List Unit) {sealed : Bool} (i : ℕ) (u : Unit) → IsProper us sealed → slice_get us i ≡ Some u → LeadsBelow (length us) u
+target_at us i u h e = each_at (LeadsBelow (length us)) us i u h.targets e
 
 -- and behind a skip stand two
 behind_skip : (us : List Unit) → CanBeSkipped us → 2 ≤ length us

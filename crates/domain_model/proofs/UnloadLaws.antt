@@ -1,20 +1,18 @@
 -- Clean unload: where a turn unloads a module, nothing names it or its domain any more.
-use Rattle.std.proofs.Common.{◌≡◌, ◌≢◌, ◌⊎◌, ℕ, ◌<◌, inl, inr, ◌==◌, not, List, [], ◌∷◌, ◌++◌, Bool, true, false, refl, sym, ap, ◌∙◌, subst, arith, Option, Some, None, Ok, Err, slice_get}
-use Rattle.std.specs.List.{AllByRecursion, Contains, list_any}
-use Rattle.std.specs.Prelude.{⊤}
-use Rattle.std.specs.Option.{option_and_then, option_map}
-use Rattle.std.proofs.lemmas.Bool.{cases_Bool, cond-true, cond-false, true≢false, eqb-false, or_parts, not-true}
-use Rattle.std.proofs.lemmas.Option.{none-some, same_Some, some_pair_parts}
+use Rattle.std.proofs.Common.{◌≡◌, ℕ, ◌+◌, ◌<◌, inl, inr, List, [], ◌∷◌, ◌++◌, Bool, true, false, refl, sym, ap, ◌∙◌, subst, arith, append_assoc, Option, Some, None, Ok, Err, slice_get}
+use Rattle.std.specs.List.{Contains, list_any}
+use Rattle.std.proofs.lemmas.Bool.{true≢false}
+use Rattle.std.proofs.lemmas.List.{append-nil}
 use Rattle.std.proofs.lemmas.List.Elements.{Contains-append_cases}
-use Rattle.mote_base.specs.Messages.{Lists, in_order, front, names, without_named}
-use Rattle.module_image.specs.declared.face.Subscribed.{Subscribed}
-use Rattle.module_image.specs.Links.{Seat, bound_slot, place_of, provider_of, seat_in, seat_of}
+use Rattle.mote_base.specs.Messages.{Lists, in_order, front}
+use Rattle.mote_base.specs.declared.frame.Frame.{Frame}
+use Rattle.module_image.specs.Links.{bound_slot}
 use Rattle.mote_layout.specs.Memory.{kernel}
 use Rattle.mote_layout.specs.declared.segment.Segment.{Segment}
 use Rattle.domain_model.specs.declared.event.LoaderOrder.{LoaderOrder}
 use Rattle.domain_model.specs.declared.event.LoaderOrder.TheVariants as what
 use Rattle.domain_model.specs.declared.event.Choice.{Choice}
-use Rattle.domain_model.specs.declared.event.Choice.TheVariants.{Stays, Hears, Comes, Dispatches, Jumps, Idles, Budgets, Watches, Acts}
+use Rattle.domain_model.specs.declared.event.Choice.TheVariants.{Stays, Hears, Fires, Comes, Dispatches, Jumps, Idles, Budgets, Watches, Acts}
 use Rattle.domain_model.specs.declared.fault.FaultNote.{FaultNote}
 use Rattle.domain_model.specs.declared.fault.UnitEnd.{UnitEnd}
 use Rattle.domain_model.specs.declared.fault.UnitEnd.TheVariants.{On, Over, Fault}
@@ -24,40 +22,29 @@ use Rattle.domain_model.specs.declared.line.TraceLine.TheVariants as line
 use Rattle.domain_model.specs.Prepared.{Module, Prep}
 use Rattle.domain_model.specs.State.{Loaded, Message, KernelState, RunnerState, State, seats}
 use Rattle.domain_model.specs.Modules.{id_at, is_loaded, in_use, module_named, without_domain, free_domain}
-use Rattle.domain_model.specs.Given.{Given}
-use Rattle.domain_model.specs.Payloads.{namings}
+use Rattle.domain_model.specs.Given.{Given, with_given}
+use Rattle.domain_model.specs.Payloads.{namings, constants_kept, naming_kept}
 use Rattle.domain_model.specs.Dump.{dumped}
 use Rattle.domain_model.specs.declared.event.Packet.{Packet}
 use Rattle.domain_model.specs.Act.{Acted}
-use Rattle.domain_model.specs.Free.{UnitStep, with_memory}
-use Rattle.domain_model.specs.Turn.{state_block, Moved, unload_module, deliver, dispatch, emptied, came, hear, load_image, load_prepared, refused_file, load_new, load_in, load_given, settled, faulted, watchdog, choice, made, May, Turn}
+use Rattle.domain_model.specs.Free.{UnitStep, with_memory, ends_handler}
+use Rattle.mote_base.specs.declared.timer.Timer.{Timer}
+use Rattle.domain_model.specs.Firing.{fired}
+use Rattle.domain_model.specs.Turn.{state_block, Moved, unload_module, deliver, dispatch, emptied, purged, handler_ended, with_none_ending, close, close_module, at_clock, came, hear, load_image, load_prepared, refused_file, load_new, load_in, load_given, load_beside, constants_block, settled, faulted, watchdog, choice, made, May, Turn}
 use Rattle.domain_model.specs.Good.{GoodMachine, GoodModule, Good}
-use Rattle.domain_model.specs.Laws.{Names, a_module, a_slot, a_message, the_message, a_block, a_lost_payload, the_running, UnloadsCleanly}
+use Rattle.domain_model.specs.Laws.{Names, a_module, a_slot, a_message, a_timer, the_message, a_block, a_lost_block, a_frame, the_running, UnloadsCleanly}
 use Rattle.domain_model.specs.Facts.{Facts}
-use Rattle.domain_model.proofs.Kept.{each_contained, each_filter, any_nowhere, contained_nowhere, contained_first, contained_later, contained_cases, contained_filter}
+use Rattle.domain_model.proofs.Kept.{each_contained, any_nowhere, contained_nowhere, contained_first, contained_later, contained_cases}
 use Rattle.domain_model.proofs.ChoiceLaws.{choice_facts}
-use Rattle.domain_model.proofs.ModuleLaws.{found, contained_without, other_domain, same_module, row_of_domain}
+use Rattle.domain_model.proofs.ModuleLaws.{found, found_id, named, same_module}
 use Rattle.domain_model.proofs.ActLaws.{is_unload, running_good, act_unloads_nothing}
 use Rattle.domain_model.proofs.UnitsKept.{step_good}
-use Rattle.domain_model.proofs.MachineLaws.{unnamed_blocks, purged_good}
-use Rattle.domain_model.proofs.SegmentLaws.{contained_entry}
+use Rattle.domain_model.proofs.MachineLaws.{ended_good}
+use Rattle.domain_model.proofs.PurgeLaws.{purge_rows, empty_rows, ArePurged, rows_contained, rows_names}
 use Rattle.domain_model.proofs.DumpLaws.{each_dumped}
 use Rattle.domain_model.proofs.HearLaws.{first_hears}
-use Rattle.domain_model.proofs.CloseLaws.{gone, faulted_is, over_is, over_ending_is}
-use Rattle.domain_model.proofs.TurnLaws.{leaves, step_changes_alone}
-
--- What a purge leaves names nothing of the module.
-
--- a seat that is found by an id is one of the seats
-seat_contained : (ss : List Seat) (id : ℕ) (seat : Seat) → seat_of id ss ≡ Some seat → Contains ss seat
-seat_contained [] id seat e = absurd (none-some seat e)
-seat_contained (s ∷ ss) id seat e =
-    elim (cases_Bool (s.face.id == id)) [
-      | inl here ↦
-          subst (Contains (s ∷ ss)) (same_Some s seat (sym (cond-true (s.face.id == id) (Some s) (seat_of id ss) here) ∙ e)) (contained_first ss s)
-      | inr other ↦
-          contained_later s ss seat (seat_contained ss id seat (sym (cond-false (s.face.id == id) (Some s) (seat_of id ss) other) ∙ e))
-    ]
+use Rattle.domain_model.proofs.FiringLaws.{timer_reminds}
+use Rattle.domain_model.proofs.TurnLaws.{leaves, step_ends}
 
 -- a loaded domain is no kernel
 pub used_below : (k : KernelState) (r : RunnerState) (domain : ℕ) → GoodMachine k r → in_use k.modules domain ≡ true → domain < kernel
@@ -66,85 +53,21 @@ used_below k r domain h used =
     let g = each_contained (GoodModule r) k.modules f.row h.modules f.contained in
     omega (arith, g.domain, f.domain_of)
 
--- what names the id no longer waits
-no_message : (messages : List Message) (id : ℕ) (m : Message) → Contains (without_named id messages) m → (m.to ≡ id) ⊎ (m.from ≡ id) → ⊥
-no_message messages id m c named =
-    let kept = contained_filter (λ (x : Message). not (names id x)) messages m c in
-    let parts = or_parts (m.from == id) (m.to == id) (not-true (names id m) kept.1) in
-    elim named [ inl to ↦ eqb-false m.to id parts.1 to | inr from ↦ eqb-false m.from id parts.0 from ]
-
--- a slot is bound to a module that is in
-bound_to : (ss : List Seat) (d i p place : ℕ) → bound_slot ss d i ≡ Some (p, place) → (seat : Seat) × Contains ss seat × (seat.domain ≡ p)
-bound_to ss d i p place e = slot_of (seat_in d ss) e
-  where
-    at : (seat : Seat) (o : Option ℕ) → (let paired : ℕ → ℕ × ℕ = λ k. (seat.domain, k) in option_map paired o ≡ Some (p, place)) → seat.domain ≡ p
-    at seat None e = absurd (cc)
-    at seat (Some k) e = (some_pair_parts seat.domain p k place e).0
-
-    served : (s : Subscribed) (o : Option Seat) → seat_of s.module ss ≡ o → option_and_then (λ (provider : Seat). let paired : ℕ → ℕ × ℕ = λ k. (provider.domain, k) in option_map paired (place_of s provider.face.provided.items)) o ≡ Some (p, place) → (seat : Seat) × Contains ss seat × (seat.domain ≡ p)
-    served s None is e = absurd (cc)
-    served s (Some seat) is e = (seat, seat_contained ss s.module seat is, at seat (place_of s seat.face.provided.items) e)
-
-    wanted : (o : Option Subscribed) → option_and_then (provider_of ss) o ≡ Some (p, place) → (seat : Seat) × Contains ss seat × (seat.domain ≡ p)
-    wanted None e = absurd (cc)
-    wanted (Some s) e = served s (seat_of s.module ss) refl e
-
-    slot_of : (o : Option Seat) → option_and_then (λ (user : Seat). option_and_then (provider_of ss) (slice_get user.face.subscribed.items i)) o ≡ Some (p, place) → (seat : Seat) × Contains ss seat × (seat.domain ≡ p)
-    slot_of None e = absurd (cc)
-    slot_of (Some user) e = wanted (slice_get user.face.subscribed.items i) e
-
--- and none is in a domain that was given up
-no_seat : (modules : List Loaded) (left : ℕ) (seat : Seat) → Contains (seats (without_domain left modules)) seat → seat.domain ≡ left → ⊥
-no_seat modules left seat c e =
-    each_contained (λ (s : Seat). s.domain ≢ left) (seats (without_domain left modules)) seat (none_gone modules) c e
-  where
-    each_seat : (ms : List Loaded) → AllByRecursion (λ (m : Loaded). m.domain ≢ left) ms → AllByRecursion (λ (s : Seat). s.domain ≢ left) (seats ms)
-    each_seat [] h = tt
-    each_seat (m ∷ ms) h = (h.0, each_seat ms h.1)
-
-    each_any : (ms : List Loaded) → AllByRecursion (λ (m : Loaded). ⊤) ms
-    each_any [] = tt
-    each_any (m ∷ ms) = (tt, each_any ms)
-
-    none_gone : (ms : List Loaded) → AllByRecursion (λ (s : Seat). s.domain ≢ left) (seats (without_domain left ms))
-    none_gone ms =
-        each_seat (without_domain left ms)
-        (each_filter (λ (m : Loaded). ⊤) (λ (m : Loaded). m.domain ≢ left) (λ (m : Loaded). not (m.domain == left))
-        (λ m kept any. other_domain m.domain left kept) ms (each_any ms))
-
-purged_names : (k : KernelState) (r : RunnerState) (m : Loaded) → GoodMachine k r → Contains k.modules m → ¬ Names (gone k m.face.id m.domain) m.face.id m.domain
-purged_names k r m h c (a_module n cn share) =
-    let kept = contained_without k.modules m.domain n cn in
-    kept.1 (ap (λ (x : Loaded). x.domain) (same_module k.modules n m h.distinct kept.0 c share))
-purged_names k r m h c (a_slot d i p place bound same) =
-    let provider = bound_to (seats (without_domain m.domain k.modules)) d i p place bound in
-    no_seat k.modules m.domain provider.0 provider.1 (provider.2 ∙ same)
-purged_names k r m h c (a_message x cx same) =
-    elim (Contains-append_cases (without_named m.face.id k.queues.high) (without_named m.face.id k.queues.low) x cx) [
-      | inl high ↦ no_message k.queues.high m.face.id x high same
-      | inr low ↦ no_message k.queues.low m.face.id x low same
-    ]
-purged_names k r m h c (the_message n hand same) = absurd (cc)
-purged_names k r m h c (a_block b cb owner) =
-    let kept = contained_filter (λ (s : Segment). not (s.owner == m.domain)) (unnamed_blocks k m.face.id) b cb in
-    other_domain b.owner m.domain kept.1 owner
-purged_names k r m h c (a_lost_payload b cb owner none) =
-    let left = purged_good k r m h c in
-    omega (arith, contained_entry (gone k m.face.id m.domain).blocks b cb owner, left.payloads.once b.first, none)
-purged_names k r m h c (the_running run running same) = absurd (cc)
-
 -- what names something names it also in a kernel with the same lists
-names_alike : (k n : KernelState) (id domain : ℕ) → n.modules ≡ k.modules → n.queues ≡ k.queues → n.hand ≡ k.hand → n.blocks ≡ k.blocks → n.running ≡ k.running → Names n id domain → Names k id domain
-names_alike k n id domain modules queues hand blocks running (a_module m c e) = a_module m (subst (λ (ms : List Loaded). Contains ms m) modules c) e
-names_alike k n id domain modules queues hand blocks running (a_slot d i p place bound e) =
+names_alike : (k n : KernelState) (id domain : ℕ) → n.modules ≡ k.modules → n.queues ≡ k.queues → n.timers ≡ k.timers → n.hand ≡ k.hand → n.blocks ≡ k.blocks → n.running ≡ k.running → n.frames ≡ k.frames → Names n id domain → Names k id domain
+names_alike k n id domain modules queues timers hand blocks running frames (a_module m c e) = a_module m (subst (λ (ms : List Loaded). Contains ms m) modules c) e
+names_alike k n id domain modules queues timers hand blocks running frames (a_slot d i p place bound e) =
     a_slot d i p place (subst (λ (ms : List Loaded). bound_slot (seats ms) d i ≡ Some (p, place)) modules bound) e
-names_alike k n id domain modules queues hand blocks running (a_message m c e) = a_message m (subst (λ (q : Lists Message). Contains (in_order q) m) queues c) e
-names_alike k n id domain modules queues hand blocks running (the_message m e same) = the_message m (sym hand ∙ e) same
-names_alike k n id domain modules queues hand blocks running (a_block b c e) = a_block b (subst (λ (bs : List Segment). Contains bs b) blocks c) e
-names_alike k n id domain modules queues hand blocks running (a_lost_payload b c e none) =
-    a_lost_payload b (subst (λ (bs : List Segment). Contains bs b) blocks c) e
+names_alike k n id domain modules queues timers hand blocks running frames (a_message m c e) = a_message m (subst (λ (q : Lists Message). Contains (in_order q) m) queues c) e
+names_alike k n id domain modules queues timers hand blocks running frames (a_timer t c e) = a_timer t (subst (λ (ts : List Timer). Contains ts t) timers c) e
+names_alike k n id domain modules queues timers hand blocks running frames (the_message m e same) = the_message m (sym hand ∙ e) same
+names_alike k n id domain modules queues timers hand blocks running frames (a_block b c e) = a_block b (subst (λ (bs : List Segment). Contains bs b) blocks c) e
+names_alike k n id domain modules queues timers hand blocks running frames (a_lost_block b c e none alone) =
+    a_lost_block b (subst (λ (bs : List Segment). Contains bs b) blocks c) e
     (ap (λ (q : Lists Message). namings b.first q k.hand) (sym queues) ∙ ap (λ (m : Option Message). namings b.first n.queues m) (sym hand) ∙ none)
-names_alike k n id domain modules queues hand blocks running (the_running run e same) = the_running run (sym running ∙ e) same
+    (ap (λ (ms : List Loaded). naming_kept b.first (constants_kept ms)) (sym modules) ∙ alone)
+names_alike k n id domain modules queues timers hand blocks running frames (a_frame f c e) = a_frame f (subst (λ (fs : List Frame). Contains fs f) frames c) e
+names_alike k n id domain modules queues timers hand blocks running frames (the_running run e same) = the_running run (sym running ∙ e) same
 
 -- Lines that unload no module.
 abbrev pub IsQuiet : List TraceLine → Type 0
@@ -154,9 +77,13 @@ pub quiet_by : (lines : List TraceLine) → list_any is_unload lines ≡ false �
 quiet_by lines h time id c =
     true≢false (each_contained (λ x. is_unload x ≡ false) lines (line.Unload time id) (any_nowhere is_unload lines h) c)
 
+constants_quiet : (o : Option Given) (state : ℕ) (m : Module) (domain image : ℕ) (k : KernelState) (r : RunnerState) → IsQuiet (load_beside o state m domain image k r).lines
+constants_quiet None state m domain image k r = quiet_by (load_beside None state m domain image k r).lines refl
+constants_quiet (Some c) state m domain image k r = quiet_by (load_beside (Some c) state m domain image k r).lines refl
+
 given_quiet : (o : Option Given) (m : Module) (domain image : ℕ) (k : KernelState) (r : RunnerState) → IsQuiet (load_given o m domain image k r).lines
 given_quiet None m domain image k r = quiet_by (load_given None m domain image k r).lines refl
-given_quiet (Some g) m domain image k r = quiet_by (load_given (Some g) m domain image k r).lines refl
+given_quiet (Some g) m domain image k r = constants_quiet (constants_block (with_given k g) m.constants) g.address m domain image k r
 
 in_quiet : (o : Option ℕ) (m : Module) (image : ℕ) (k : KernelState) (r : RunnerState) → IsQuiet (load_in o m image k r).lines
 in_quiet None m image k r = quiet_by (load_in None m image k r).lines refl
@@ -170,16 +97,15 @@ prepared_quiet : (prep : Prep) (image : ℕ) (k : KernelState) (r : RunnerState)
 prepared_quiet (Err refusal) image k r = quiet_by (refused_file refusal image k r).lines refl
 prepared_quiet (Ok m) image k r = new_quiet (is_loaded k.modules m.face.id) m image k r
 
-image_quiet : (o : Option (Option Prep)) (image : ℕ) (k : KernelState) (r : RunnerState) → IsQuiet (load_image o image k r).lines
+image_quiet : (o : Option Prep) (image : ℕ) (k : KernelState) (r : RunnerState) → IsQuiet (load_image o image k r).lines
 image_quiet None image k r = quiet_by [] refl
-image_quiet (Some None) image k r = quiet_by [] refl
-image_quiet (Some (Some prep)) image k r = prepared_quiet prep image k r
+image_quiet (Some prep) image k r = prepared_quiet prep image k r
 
 unload_quiet : (o : Option Loaded) (id : ℕ) (k : KernelState) (r : RunnerState) → IsQuiet (unload_module o id k r).lines
 unload_quiet None id k r = quiet_by (line.Absent k.clock id ∷ []) refl
 unload_quiet (Some row) id k r = quiet_by (line.Run k.clock id 1 0 ∷ []) refl
 
-pub came_quiet : (images : List (Option Prep)) (w : LoaderOrder) (k : KernelState) (r : RunnerState) → IsQuiet (came images w k r).lines
+pub came_quiet : (images : List Prep) (w : LoaderOrder) (k : KernelState) (r : RunnerState) → IsQuiet (came images w k r).lines
 came_quiet images (what.Load n) k r = image_quiet (slice_get images n) n k r
 came_quiet images (what.Unload id) k r = unload_quiet (module_named k.modules id) id k r
 came_quiet images what.Dump k r = λ time id c.
@@ -190,6 +116,7 @@ came_quiet images what.Dump k r = λ time id c.
       modules = λ id domain state. refl;
       blocks = λ address bytes owner. refl;
       messages = λ high from to sort address. refl;
+      timers = λ «module» id due. refl;
       last = refl;
     }) k) c)
 
@@ -204,112 +131,186 @@ pub dispatch_quiet : (o : Option Message) (k : KernelState) (r : RunnerState) �
 dispatch_quiet None k r = quiet_by [] refl
 dispatch_quiet (Some m) k r = deliver_quiet (module_named k.modules m.to) m k r
 
--- A fault unloads the module of the running domain.
-
-pub unloaded_id : (lines : List TraceLine) (x : TraceLine) (at id time : ℕ) (other : ℕ) → is_unload x ≡ false → IsQuiet lines → Contains (lines ++ x ∷ line.Unload at other ∷ []) (line.Unload time id) → other ≡ id
-unloaded_id lines x at id time other not_it quiet c =
-    elim (Contains-append_cases lines (x ∷ line.Unload at other ∷ []) (line.Unload time id) c) [
-      | inl before ↦ absurd (quiet time id before)
-      | inr later ↦
-          elim (contained_cases x (line.Unload at other ∷ []) (line.Unload time id) later) [
-            | inl e ↦ absurd (true≢false (ap is_unload (sym e) ∙ not_it))
-            | inr last ↦
-                elim (contained_cases (line.Unload at other) [] (line.Unload time id) last) [
-                  | inl e ↦ cc
-                  | inr none ↦ absurd (contained_nowhere (line.Unload time id) none)
-                ]
-          ]
-    ]
-
-pub last_id : (lines : List TraceLine) (at id time other : ℕ) → IsQuiet lines → Contains (lines ++ line.Unload at other ∷ []) (line.Unload time id) → other ≡ id
-last_id lines at id time other quiet c =
-    elim (Contains-append_cases lines (line.Unload at other ∷ []) (line.Unload time id) c) [
-      | inl before ↦ absurd (quiet time id before)
-      | inr later ↦
-          elim (contained_cases (line.Unload at other) [] (line.Unload time id) later) [
-            | inl e ↦ cc
-            | inr none ↦ absurd (contained_nowhere (line.Unload time id) none)
-          ]
-    ]
-
 -- a unit's step unloads nothing, nor does a handler's end
 pub step_quiet : (k : KernelState) (r : RunnerState) (got : Acted) → UnitStep k r got → IsQuiet got.lines
 step_quiet k r got step time id h =
     act_unloads_nothing k r time id (subst (λ (xs : List TraceLine). Contains xs (line.Unload time id)) step.lines h)
 
-pub done_quiet : (run : Running) (k : KernelState) (lines : List TraceLine) → IsQuiet lines → IsQuiet (lines ++ line.Done k.clock (id_at k.modules run.domain) ∷ [])
-done_quiet run k lines quiet time id c =
-    elim (Contains-append_cases lines (line.Done k.clock (id_at k.modules run.domain) ∷ []) (line.Unload time id) c) [
+-- lines and one more that unloads nothing
+more_quiet : (lines : List TraceLine) (x : TraceLine) → is_unload x ≡ false → IsQuiet lines → IsQuiet (lines ++ x ∷ [])
+more_quiet lines x not_it quiet time id c =
+    elim (Contains-append_cases lines (x ∷ []) (line.Unload time id) c) [
       | inl before ↦ quiet time id before
-      | inr later ↦ quiet_by (line.Done k.clock (id_at k.modules run.domain) ∷ []) refl time id later
+      | inr last ↦
+          elim (contained_cases x [] (line.Unload time id) last) [
+            | inl e ↦ true≢false (ap is_unload (sym e) ∙ not_it)
+            | inr none ↦ contained_nowhere (line.Unload time id) none
+          ]
     ]
 
--- What a unit's end makes of kernel and runner, where it unloads a module: that of the running domain is gone.
-pub record Unloads (k : KernelState) (r : RunnerState) (run : Running) (id domain : ℕ) (moved : Moved) : Type 0 where
-  pub kernel : moved.kernel ≡ gone k id domain
-  pub runner : moved.runner ≡ emptied r domain
-  pub id_of : id_at k.modules run.domain ≡ id
-  pub domain_of : domain ≡ run.domain
+-- A handler's end purges some modules, one after the other, and its last lines say so of each.
 
-module _ (k : KernelState) (r : RunnerState) (run : Running) (h : GoodMachine k r) (i : k.running ≡ Some run) where
-  unloads_by : (moved : Moved) (m : Loaded) → moved.kernel ≡ gone k (id_at k.modules run.domain) run.domain → moved.runner ≡ emptied r run.domain → Contains k.modules m → id_at k.modules run.domain ≡ m.face.id → Unloads k r run m.face.id m.domain moved
-  unloads_by moved m e empty c id =
-      let domain = row_of_domain k.modules run.domain m h.distinct (running_good k r run h i).0.loaded c id in
-      record {
-        kernel = e ∙ ap (λ (x : ℕ). gone k x run.domain) id ∙ ap (λ (x : ℕ). gone k m.face.id x) (sym domain);
-        runner = empty ∙ ap (λ (x : ℕ). emptied r x) (sym domain);
-        id_of = id;
-        domain_of = domain;
-      }
+abbrev pub unloads : ℕ → List Loaded → List TraceLine
+unloads time [] = []
+unloads time (row ∷ rows) = line.Unload time row.face.id ∷ unloads time rows
 
-  pub faulted_unloads : (note : FaultNote) (lines : List TraceLine) → IsQuiet lines → (time : ℕ) (m : Loaded) → Contains (faulted note run k r lines).lines (line.Unload time m.face.id) → Contains k.modules m → Unloads k r run m.face.id m.domain (faulted note run k r lines)
-  faulted_unloads note lines quiet time m c cm =
-      let is = faulted_is k r run h i note lines in
-      let there = subst (λ (x : Moved). Contains x.lines (line.Unload time m.face.id)) is c in
-      unloads_by (faulted note run k r lines) m (ap (λ (x : Moved). x.kernel) is) (ap (λ (x : Moved). x.runner) is) cm (unloaded_id lines _ k.clock m.face.id time (id_at k.modules run.domain) refl quiet there)
+-- the kernel once the handler is over, before any purge
+abbrev pub once_over : KernelState → KernelState
+once_over k = with_none_ending (handler_ended k)
 
-  over_unloads : (o : Option ℕ) (lines : List TraceLine) → k.ending ≡ o → IsQuiet lines → (time : ℕ) (m : Loaded) → Contains (settled Over run k r lines).lines (line.Unload time m.face.id) → Contains k.modules m → Unloads k r run m.face.id m.domain (settled Over run k r lines)
-  over_unloads None lines e quiet time m c cm =
-      absurd (done_quiet run k lines quiet time m.face.id (subst (λ (x : Moved). Contains x.lines (line.Unload time m.face.id)) (over_is run k r lines e) c))
-  over_unloads (Some id) lines e quiet time m c cm =
-      let is = over_ending_is k r run h i id lines e in
-      let there = subst (λ (x : Moved). Contains x.lines (line.Unload time m.face.id)) is c in
-      unloads_by (settled Over run k r lines) m (ap (λ (x : Moved). x.kernel) is) (ap (λ (x : Moved). x.runner) is) cm
-      (last_id (lines ++ line.Done k.clock (id_at k.modules run.domain) ∷ []) k.clock m.face.id time (id_at k.modules run.domain) (done_quiet run k lines quiet) there)
+pub record Purges (k : KernelState) (r : RunnerState) (moved : Moved) : Type 0 where
+  pub rows : List Loaded
+  pub told : List TraceLine
+  pub purged : ArePurged (once_over k) rows
+  pub kernel : moved.kernel ≡ purge_rows rows (once_over k)
+  pub runner : moved.runner ≡ empty_rows rows r
+  pub lines : moved.lines ≡ told ++ unloads k.clock rows
+  pub quiet : IsQuiet told
 
-  pub settled_unloads : (e : UnitEnd) (lines : List TraceLine) → IsQuiet lines → (time : ℕ) (m : Loaded) → Contains (settled e run k r lines).lines (line.Unload time m.face.id) → Contains k.modules m → Unloads k r run m.face.id m.domain (settled e run k r lines)
-  settled_unloads On lines quiet time m c cm = absurd (quiet time m.face.id c)
-  settled_unloads Over lines quiet time m c cm = over_unloads k.ending lines refl quiet time m c cm
-  settled_unloads (Fault note) lines quiet time m c cm = faulted_unloads note lines quiet time m c cm
+module _ (k : KernelState) (r : RunnerState) (lines : List TraceLine) (x : TraceLine) (not_it : is_unload x ≡ false) (quiet : IsQuiet lines) where
+  -- A return purges the module that ends, where one does and is still in.
+  over_module : (o : Option Loaded) (id : ℕ) → module_named k.modules id ≡ o → Purges k r (close_module o (handler_ended k) r (lines ++ x ∷ []))
+  over_module None id at = record {
+    rows = [];
+    told = lines ++ x ∷ [];
+    purged = tt;
+    kernel = refl;
+    runner = refl;
+    lines = sym (append-nil (lines ++ x ∷ []));
+    quiet = more_quiet lines x not_it quiet;
+  }
+  over_module (Some row) id at = record {
+    rows = row ∷ [];
+    told = lines ++ x ∷ [];
+    purged = ((named k.modules id row at).contained, tt);
+    kernel = refl;
+    runner = refl;
+    lines = refl;
+    quiet = more_quiet lines x not_it quiet;
+  }
 
--- The change after a unit's end or a watchdog's strike names nothing of a module whose id the lines unload.
-unloaded_clean : (k : KernelState) (r : RunnerState) (run : Running) (m : Loaded) (moved : Moved) → GoodMachine k r → Contains k.modules m → Unloads k r run m.face.id m.domain moved → ¬ Names moved.kernel m.face.id m.domain
-unloaded_clean k r run m moved h c u = subst (λ (x : KernelState). ¬ Names x m.face.id m.domain) (sym u.kernel) (purged_names k r m h c)
+  over_purges : (o : Option ℕ) → k.ending ≡ o → Purges k r (close o (handler_ended k) r (lines ++ x ∷ []))
+  over_purges None e = record {
+    rows = [];
+    told = lines ++ x ∷ [];
+    purged = tt;
+    kernel = ap (λ (o : Option ℕ). record (handler_ended k) { ending = o }) e;
+    runner = refl;
+    lines = sym (append-nil (lines ++ x ∷ []));
+    quiet = more_quiet lines x not_it quiet;
+  }
+  over_purges (Some id) e = over_module (module_named k.modules id) id refl
+
+  -- A fault purges the module that ran, and then the one that ends, where it is another.
+  fault_module : (row : Loaded) (o : Option Loaded) (id : ℕ) → Contains k.modules row → module_named (without_domain row.domain k.modules) id ≡ o → Purges k r (close_module o (purged (handler_ended k) row.face.id row.domain) (emptied r row.domain) (lines ++ x ∷ line.Unload k.clock row.face.id ∷ []))
+  fault_module row None id c at = record {
+    rows = row ∷ [];
+    told = lines ++ x ∷ [];
+    purged = (c, tt);
+    kernel = refl;
+    runner = refl;
+    lines = sym (append_assoc lines (x ∷ []) (line.Unload k.clock row.face.id ∷ []));
+    quiet = more_quiet lines x not_it quiet;
+  }
+  fault_module row (Some other) id c at = record {
+    rows = row ∷ other ∷ [];
+    told = lines ++ x ∷ [];
+    purged = (c, ((named (without_domain row.domain k.modules) id other at).contained, tt));
+    kernel = refl;
+    runner = refl;
+    lines = append_assoc lines (x ∷ line.Unload k.clock row.face.id ∷ []) (line.Unload k.clock other.face.id ∷ [])
+        ∙ sym (append_assoc lines (x ∷ []) (line.Unload k.clock row.face.id ∷ line.Unload k.clock other.face.id ∷ []));
+    quiet = more_quiet lines x not_it quiet;
+  }
+
+  fault_purges : (row : Loaded) (o : Option ℕ) → Contains k.modules row → k.ending ≡ o → Purges k r (close o (purged (handler_ended k) row.face.id row.domain) (emptied r row.domain) (lines ++ x ∷ line.Unload k.clock row.face.id ∷ []))
+  fault_purges row None c e = record {
+    rows = row ∷ [];
+    told = lines ++ x ∷ [];
+    purged = (c, tt);
+    kernel = ap (λ (o : Option ℕ). record (purged (handler_ended k) row.face.id row.domain) { ending = o }) e;
+    runner = refl;
+    lines = sym (append_assoc lines (x ∷ []) (line.Unload k.clock row.face.id ∷ []));
+    quiet = more_quiet lines x not_it quiet;
+  }
+  fault_purges row (Some id) c e = fault_module row (module_named (without_domain row.domain k.modules) id) id c refl
+
+pub faulted_purges : (note : FaultNote) (run : Running) (k : KernelState) (r : RunnerState) (lines : List TraceLine) → GoodMachine k r → k.running ≡ Some run → IsQuiet lines → Purges k r (faulted note run k r lines)
+faulted_purges note run k r lines h i quiet =
+    let f = found k.modules run.domain (running_good k r run h i).0.loaded in
+    let id : f.row.face.id ≡ id_at k.modules run.domain = sym (found_id k.modules run.domain f) in
+    let x = line.Fault k.clock note.rule (id_at k.modules run.domain) r.unit note.address in
+    subst (λ (d : ℕ). Purges k r (close k.ending (purged (handler_ended k) (id_at k.modules run.domain) d) (emptied r d) (lines ++ x ∷ line.Unload k.clock (id_at k.modules run.domain) ∷ []))) f.domain_of
+    (subst (λ (n : ℕ). Purges k r (close k.ending (purged (handler_ended k) n f.row.domain) (emptied r f.row.domain) (lines ++ x ∷ line.Unload k.clock n ∷ []))) id
+    (fault_purges k r lines x refl quiet f.row k.ending f.contained refl))
+
+-- each end of a unit does
+pub settled_purges : (e : UnitEnd) (run : Running) (k : KernelState) (r : RunnerState) (lines : List TraceLine) → GoodMachine k r → (ends_handler e ≡ true → k.running ≡ Some run) → IsQuiet lines → ends_handler e ≡ true → Purges k r (settled e run k r lines)
+settled_purges On run k r lines h i quiet ends = absurd (true≢false (sym ends))
+settled_purges Over run k r lines h i quiet ends = over_purges k r lines (line.Done k.clock (id_at k.modules run.domain)) refl quiet k.ending refl
+settled_purges (Fault note) run k r lines h i quiet ends = faulted_purges note run k r lines h (i refl) quiet
+
+-- What is said of a purge.
+module _ (k : KernelState) (r : RunnerState) (h : GoodMachine k r) (moved : Moved) (p : Purges k r moved) where
+  over_good : GoodMachine (once_over k) r
+  over_good = ended_good k r h
+
+  -- a module whose id the lines unload is one of those that were purged
+  unloaded_by : (rows : List Loaded) (at time : ℕ) (m : Loaded) → ((row : Loaded) → Contains rows row → Contains k.modules row) → Contains (unloads at rows) (line.Unload time m.face.id) → Contains k.modules m → Contains rows m
+  unloaded_by [] at time m there c cm = absurd (contained_nowhere (line.Unload time m.face.id) c)
+  unloaded_by (row ∷ rows) at time m there c cm =
+      elim (contained_cases (line.Unload at row.face.id) (unloads at rows) (line.Unload time m.face.id) c) [
+        | inl e ↦
+            let id : row.face.id ≡ m.face.id = cc in
+            subst (Contains (row ∷ rows)) (same_module k.modules row m h.distinct (there row (contained_first rows row)) cm (inl id)) (contained_first rows row)
+        | inr later ↦ contained_later row rows m (unloaded_by rows at time m (λ n cn. there n (contained_later row rows n cn)) later cm)
+      ]
+
+  pub is_purged : (time : ℕ) (m : Loaded) → Contains moved.lines (line.Unload time m.face.id) → Contains k.modules m → Contains p.rows m
+  is_purged time m c cm =
+      elim (Contains-append_cases p.told (unloads k.clock p.rows) (line.Unload time m.face.id) (subst (λ (xs : List TraceLine). Contains xs (line.Unload time m.face.id)) p.lines c)) [
+        | inl before ↦ absurd (p.quiet time m.face.id before)
+        | inr last ↦ unloaded_by p.rows k.clock time m (λ row cr. rows_contained p.rows (once_over k) row p.purged cr) last cm
+      ]
+
+  -- so nothing names it
+  pub purges_clean : (time : ℕ) (m : Loaded) → Contains moved.lines (line.Unload time m.face.id) → Contains k.modules m → ¬ Names moved.kernel m.face.id m.domain
+  purges_clean time m c cm =
+      subst (λ (n : KernelState). ¬ Names n m.face.id m.domain) (sym p.kernel)
+      (each_contained (λ (row : Loaded). ¬ Names (purge_rows p.rows (once_over k)) row.face.id row.domain) p.rows m (rows_names p.rows (once_over k) r over_good refl p.purged) (is_purged time m c cm))
+
+-- a unit that goes on unloads nothing
+pub ends_where : (e : UnitEnd) (run : Running) (k : KernelState) (r : RunnerState) (lines : List TraceLine) → IsQuiet lines → (time id : ℕ) → Contains (settled e run k r lines).lines (line.Unload time id) → ends_handler e ≡ true
+ends_where On run k r lines quiet time id c = absurd (quiet time id c)
+ends_where Over run k r lines quiet time id c = refl
+ends_where (Fault note) run k r lines quiet time id c = refl
 
 made_clean : (c : Choice) (s : State) (got : Acted) → Good s → Facts c s → May c s got → UnloadsCleanly s (made c s got).state (made c s got).lines
 made_clean Stays s got g facts may time m c cm = absurd (quiet_by [] refl time m.face.id c)
 made_clean Hears s got g facts may time m c cm = absurd (hear_quiet (slice_get s.packets 0) s.kernel s.runner time m.face.id c)
+made_clean Fires s got g facts may time m c cm =
+    absurd (quiet_by (fired s.kernel).lines (timer_reminds s.kernel facts.timer facts.first facts.due).quiet time m.face.id c)
 made_clean (Comes e) s got g facts may time m c cm = absurd (came_quiet s.images e.what s.kernel s.runner time m.face.id c)
 made_clean Dispatches s got g facts may time m c cm = absurd (dispatch_quiet (front s.kernel.queues) s.kernel s.runner time m.face.id c)
 made_clean (Jumps now) s got g facts may time m c cm = absurd (quiet_by [] refl time m.face.id c)
 made_clean Idles s got g facts may time m c cm = absurd (quiet_by (line.EndIdle s.kernel.clock ∷ []) refl time m.face.id c)
 made_clean Budgets s got g facts may time m c cm = absurd (quiet_by (line.EndBudget s.kernel.clock ∷ []) refl time m.face.id c)
 made_clean (Watches run) s got g facts may time m c cm =
-    unloaded_clean s.kernel s.runner run m (faulted (watchdog s) run s.kernel s.runner []) g.machine cm
-    (faulted_unloads s.kernel s.runner run g.machine facts.running (watchdog s) [] (quiet_by [] refl) time m c cm)
+    purges_clean s.kernel s.runner g.machine (faulted (watchdog s) run s.kernel s.runner [])
+    (faulted_purges (watchdog s) run s.kernel s.runner [] g.machine facts.running (quiet_by [] refl)) time m c cm
 made_clean (Acts run) s got g facts may time m c cm =
-    let rest = step_changes_alone s.kernel s.runner got may in
-    let running : got.kernel.running ≡ Some run = ap (λ (k : KernelState). k.running) rest ∙ facts.running in
-    let there : Contains got.kernel.modules m = subst (λ (k : KernelState). Contains k.modules m) (sym rest) cm in
-    let good = step_good s.kernel s.runner got may g.machine in
-    λ names.
-    unloaded_clean got.kernel got.runner run m (settled got.ending run got.kernel got.runner got.lines) good there
-    (settled_unloads got.kernel got.runner run good running got.ending got.lines (step_quiet s.kernel s.runner got may) time m c there)
-    (names_alike (settled got.ending run got.kernel got.runner got.lines).kernel _ m.face.id m.domain refl refl refl refl refl names)
+    let quiet = step_quiet s.kernel s.runner got may in
+    let ends = ends_where got.ending run got.kernel got.runner got.lines quiet time m.face.id c in
+    let same = step_ends s.kernel s.runner got may ends in
+    let moved = settled got.ending run got.kernel got.runner got.lines in
+    let clean = purges_clean got.kernel got.runner (step_good s.kernel s.runner got may g.machine) moved
+    (settled_purges got.ending run got.kernel got.runner got.lines (step_good s.kernel s.runner got may g.machine) (λ over. ap (λ (n : KernelState). n.running) same ∙ facts.running) quiet ends)
+    time m c (subst (λ (n : KernelState). Contains n.modules m) (sym same) cm) in
+    λ names. clean (names_alike moved.kernel (at_clock moved.kernel (moved.kernel.clock + 1)) m.face.id m.domain refl refl refl refl refl refl refl names)
 
 pub turn_unloads : (s t : State) (lines : List TraceLine) → Good s → Turn s t lines → UnloadsCleanly s t lines
 turn_unloads s t lines g turn time m c cm =
     leaves (λ (x : State). ¬ Names x.kernel m.face.id m.domain)
-    (λ free x memory same clean names. clean (names_alike x.kernel (with_memory x.kernel memory) m.face.id m.domain refl refl refl refl refl names))
+    (λ free x memory same clean names. clean (names_alike x.kernel (with_memory x.kernel memory) m.face.id m.domain refl refl refl refl refl refl refl names))
     (choice s) (made (choice s) s turn.got).state t turn.to
     (made_clean (choice s) s turn.got g (choice_facts s) turn.may time m (subst (λ (xs : List TraceLine). Contains xs (line.Unload time m.face.id)) turn.tells c) cm)

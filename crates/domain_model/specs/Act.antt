@@ -1,14 +1,16 @@
 -- What one unit does.
-use Rattle.std.specs.Prelude.{ℕ, ◌+◌, ◌-◌, ◌==◌, nat_lt, nat_le, List, [], Bool, true, false, not, Option, Some, None, slice_get, slice_index_or, unwrap_or}
+use Rattle.std.specs.Prelude.{ℕ, ◌+◌, ◌-◌, ◌==◌, nat_lt, nat_le, List, [], ◌∷◌, Bool, true, false, not, Option, Some, None, slice_get, slice_index_or, unwrap_or}
 use Rattle.avr_alu.specs.Bits.{is_set}
 use Rattle.avr_isa.specs.declared.instruction.Instr.{Instr}
 use Rattle.avr_isa.specs.declared.instruction.Instr.TheVariants as instr
 use Rattle.avr_machine.specs.Effect.{effect}
-use Rattle.avr_machine.specs.Modes.{store_address as address_by_mode}
-use Rattle.mote_layout.specs.Memory.{ram_start, floor, pointer_y}
-use Rattle.mote_layout.specs.Store.{may_store as permits}
+use Rattle.avr_machine.specs.Modes.{store_address as stored_by_mode, load_address as loaded_by_mode}
+use Rattle.mote_base.specs.declared.frame.Frame.{Frame}
+use Rattle.mote_layout.specs.Memory.{ram_start, floor, pointer_y, pointer_z}
+use Rattle.mote_layout.specs.Store.{may_store as permits_store}
+use Rattle.mote_layout.specs.Load.{may_load as permits_load}
 use Rattle.unit_code.specs.declared.unit.Unit.{Unit}
-use Rattle.unit_code.specs.declared.unit.Unit.TheVariants.{Plain, Store, Push, Pop, SpGroup, Reserve, Skip, Branch, Jump, KernelCall, Return}
+use Rattle.unit_code.specs.declared.unit.Unit.TheVariants.{Plain, Store, Load, Push, Pop, SpGroup, Reserve, Skip, Branch, Jump, LocalCall, KernelCall, SlotCall, SlotIndirect, Return}
 use Rattle.domain_model.specs.declared.handler.Running.{Running}
 use Rattle.domain_model.specs.declared.fault.Rule.{Rule}
 use Rattle.domain_model.specs.declared.fault.Rule.TheVariants as rule
@@ -18,9 +20,12 @@ use Rattle.domain_model.specs.declared.fault.Served.TheVariants as served
 use Rattle.domain_model.specs.declared.fault.UnitEnd.{UnitEnd}
 use Rattle.domain_model.specs.declared.fault.UnitEnd.TheVariants.{On, Over, Fault}
 use Rattle.domain_model.specs.declared.line.TraceLine.{TraceLine}
-use Rattle.domain_model.specs.State.{Processor, KernelState, RunnerState, at_counter, without_counter, register, pair, with_byte, with_processor, with_zeros}
-use Rattle.domain_model.specs.Units.{service_of}
-use Rattle.domain_model.specs.Calls.{Serving, serve}
+use Rattle.domain_model.specs.State.{Processor, Message, KernelState, RunnerState, at_counter, without_counter, register, pair, with_processor, with_zeros}
+use Rattle.domain_model.specs.Modules.{id_at, constants_at}
+use Rattle.domain_model.specs.Services.{service_of}
+use Rattle.domain_model.specs.Calls.{Serving, answered, serve}
+pub use Rattle.domain_model.specs.Frames.{reserved, has_room}
+use Rattle.domain_model.specs.Frames.{call_fault, local_called, slot_called, came_back, indirect_slot, bound_at, entry_unit, call_line, unbound_line, unbound_answer}
 
 -- Kernel and runner after a unit, the lines that it wrote, and how it ended.
 pub record Acted : Type 0 where
@@ -50,7 +55,19 @@ returns k r = record { kernel = k; runner = r; lines = []; ending = Over }
 
 -- Where the running domain may store: in its own blocks, and on its own part of the stack.
 abbrev pub may_store : KernelState → Running → ℕ → Bool
-may_store k run address = permits k.blocks run.domain k.processor.sp run.bound address
+may_store k run address = permits_store k.blocks run.domain k.processor.sp run.bound address
+
+-- The module with an id is the receiver of the message in hand.
+abbrev pub receives : Option Message → ℕ → Bool
+receives None id = false
+receives (Some m) id = m.to == id
+
+-- Where the running domain may load, in a sealed image: below the memory, where it may store, in the block of its module's
+-- constants, and in the message frame where its module is the receiver of the message in hand.
+abbrev pub may_load : KernelState → Running → ℕ → Bool
+may_load k run address =
+    permits_load k.blocks run.domain (receives k.hand (id_at k.modules run.domain)) (constants_at k.modules run.domain)
+    k.processor.sp run.bound address
 
 -- What the instruction of a unit does to the processor, stores too. It leads to the next instruction, so that neither the
 -- program counter nor what stands behind that one matters.
@@ -59,7 +76,11 @@ plain_effect i p = without_counter (effect i 0 (at_counter p 0))
 
 -- The address that a store writes, by its mode. Only an instruction that is no store has none.
 abbrev pub store_address : Instr → Processor → ℕ
-store_address i p = unwrap_or (address_by_mode i (at_counter p 0)) 0
+store_address i p = unwrap_or (stored_by_mode i (at_counter p 0)) 0
+
+-- and the address that a load reads
+abbrev pub load_address : Instr → Processor → ℕ
+load_address i p = unwrap_or (loaded_by_mode i (at_counter p 0)) 0
 
 -- A skip passes over the next instruction: it leads to where that one ends, which is 1 here, and not to where it begins, 0.
 abbrev pub passes : Instr → Processor → Bool
@@ -89,14 +110,6 @@ group_effect with_sreg p =
       memory = with_zeros p.memory (group_sp p + 1 - ram_start) (p.sp - group_sp p);
     }
 
--- Two bytes 0 are pushed.
-abbrev pub reserved : Processor → Processor
-reserved p = record (with_byte (with_byte p p.sp 0) (p.sp - 1) 0) { sp = p.sp - 2 }
-
--- Two bytes have room on the stack.
-abbrev pub has_room : Processor → Bool
-has_room p = nat_le (floor + 2) p.sp
-
 -- Each unit with a need, by whether it is met.
 
 -- an instruction: where its need isn't met, the fault has this rule and address
@@ -125,9 +138,31 @@ abbrev pub act_branch : Bool → ℕ → KernelState → RunnerState → Acted
 act_branch true target k r = goes_to target k r []
 act_branch false target k r = goes_on k r []
 
+-- a return: from the call of the frame on top, and from the handler where there is no frame
+abbrev pub act_back : List Frame → KernelState → RunnerState → Acted
+act_back [] k r = returns k r
+act_back (f ∷ below) k r = goes_to f.back (came_back f below k) r []
+
 abbrev pub act_return : Bool → KernelState → RunnerState → Acted
-act_return true k r = returns k r
+act_return true k r = act_back k.frames k r
 act_return false k r = faults rule.Balance k.processor.sp k r
+
+-- a call, by what stands against it
+abbrev pub act_called : Option FaultNote → Acted → KernelState → RunnerState → Acted
+act_called None entered k r = entered
+act_called (Some note) entered k r = stopped note k r
+
+-- a call of a slot, by what the slot is bound to; one that isn't bound answers so and goes on
+abbrev pub act_slot : Option (ℕ × ℕ) → ℕ → Running → KernelState → RunnerState → Acted
+act_slot None slot run k r = goes_on (answered k unbound_answer) r (unbound_line k run slot ∷ [])
+act_slot (Some (domain, place)) slot run k r =
+    act_called (call_fault k)
+    (goes_to (entry_unit k.modules domain place) (slot_called k run (r.unit + 1) domain) r (call_line k run slot domain place ∷ [])) k r
+
+-- an indirect call, by the slot that it names
+abbrev pub act_indirect : Option ℕ → Running → KernelState → RunnerState → Acted
+act_indirect None run k r = faults rule.Target (pair k.processor pointer_z) k r
+act_indirect (Some slot) run k r = act_slot (bound_at k run slot) slot run k r
 
 -- a kernel call, by how it came back
 abbrev pub act_served : Served → Serving → RunnerState → Acted
@@ -137,11 +172,13 @@ act_served (served.Fault note) s r = record { kernel = s.kernel; runner = r; lin
 abbrev pub act_call : Serving → RunnerState → Acted
 act_call s r = act_served s.served s r
 
--- A unit by its kind. No run has one that is not built: it would end the handler and change nothing.
+-- A unit by its kind.
 abbrev pub act_unit : Unit → Running → KernelState → RunnerState → Acted
 act_unit (Plain i) run k r = goes_on (with_processor k (plain_effect i k.processor)) r []
 act_unit (Store i) run k r =
     act_effect (may_store k run (store_address i k.processor)) rule.Store (store_address i k.processor) i k r
+act_unit (Load i) run k r =
+    act_effect (may_load k run (load_address i k.processor)) rule.Load (load_address i k.processor) i k r
 act_unit (Push s) run k r = act_effect (nat_lt floor k.processor.sp) rule.StackOver k.processor.sp (instr.Push s) k r
 act_unit (Pop d) run k r = act_effect (nat_lt k.processor.sp run.base) rule.StackUnder k.processor.sp (instr.Pop d) k r
 act_unit (SpGroup with_sreg) run k r = act_group (nat_le floor (group_sp k.processor)) with_sreg run k r
@@ -150,8 +187,11 @@ act_unit (Skip i) run k r = act_skip (passes i k.processor) k r
 act_unit (Branch set bit target) run k r = act_branch (taken set bit k.processor) target k r
 act_unit (Jump target) run k r = goes_to target k r []
 act_unit (KernelCall n) run k r = act_call (serve (service_of n) run k) r
+act_unit (LocalCall target) run k r =
+    act_called (call_fault k) (goes_to target (local_called k run (r.unit + 1)) r []) k r
+act_unit (SlotCall slot) run k r = act_slot (bound_at k run slot) slot run k r
+act_unit SlotIndirect run k r = act_indirect (indirect_slot k.processor) run k r
 act_unit Return run k r = act_return (k.processor.sp == run.base) k r
-act_unit _ run k r = returns k r
 
 -- the units of a domain's module
 abbrev pub bank : RunnerState → ℕ → List Unit

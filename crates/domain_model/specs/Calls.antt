@@ -1,6 +1,9 @@
 -- What each kernel call does. Its answer is in R25:R24; all other registers, SREG and SP stay.
-use Rattle.std.specs.Prelude.{ℕ, ◌%◌, ◌==◌, nat_lt, nat_le, List, [], ◌∷◌, length, Bool, true, false, Option, Some, None}
+use Rattle.std.specs.Prelude.{ℕ, ◌+◌, ◌%◌, ◌==◌, not, nat_lt, nat_le, List, [], ◌∷◌, length, Bool, true, false, Option, Some, None, if◌then◌else◌}
+use Rattle.std.specs.List.{list_any}
 use Rattle.mote_base.specs.Messages.{list_of, appended, queue_limit}
+use Rattle.mote_base.specs.Timers.{timer_limit, is_of, started, without as without_timer}
+use Rattle.mote_base.specs.declared.timer.Timer.{Timer}
 use Rattle.mote_layout.specs.Memory.{kernel}
 use Rattle.mote_layout.specs.Limits.{payload_limit}
 use Rattle.mote_layout.specs.Blocks.{block_address, block_of, without, handed_over}
@@ -13,7 +16,7 @@ use Rattle.domain_model.specs.declared.fault.Served.TheVariants.{Back, Fault}
 use Rattle.domain_model.specs.declared.line.TraceLine.{TraceLine}
 use Rattle.domain_model.specs.declared.line.TraceLine.TheVariants as line
 use Rattle.domain_model.specs.State.{Message, Loaded, KernelState, register, pair, bytes_at, with_pair, with_processor}
-use Rattle.domain_model.specs.Units.{Service, Malloc, Free, ChangeOwn, PostShort, PostLong, Take, Say, Clock, Send, MyId}
+use Rattle.domain_model.specs.Services.{Service, Malloc, Free, ChangeOwn, PostShort, PostLong, Take, TimerStart, TimerStop, Say, Clock, Send, MyId}
 use Rattle.domain_model.specs.Modules.{id_at, is_loaded, module_named}
 use Rattle.domain_model.specs.Payloads.{holds_bytes}
 use Rattle.domain_model.specs.Given.{Given, given, with_given}
@@ -142,6 +145,40 @@ take_hand (Some m) run k = take_by (m.to == id_at k.modules run.domain) m run k
 abbrev pub take_payload : KernelState → Running → KernelState
 take_payload k run = take_hand k.hand run k
 
+-- The timer that the registers of a start ask for: with the id in R24, due after the ticks in R23:R22, and again each time where R20
+-- isn't 0. It is the running module's.
+abbrev pub timer_of : KernelState → Running → Timer
+timer_of k run =
+    record {
+      «module» = id_at k.modules run.domain;
+      id = register k.processor 24;
+      due = k.clock + pair k.processor 22;
+      ticks = pair k.processor 22;
+      again = not (register k.processor 20 == 0);
+    }
+
+-- `timer_start` answers 2 where the ticks are 0, else 1 where as many others run as may, and else starts the timer, in the place of the
+-- module's with its id, and answers 0.
+abbrev pub start_answer : Timer → List Timer → ℕ
+start_answer t timers =
+    if t.ticks == 0 then 2 else (if nat_lt (length (without_timer t.«module» t.id timers)) timer_limit then 0 else 1)
+
+abbrev pub timer_start : KernelState → Running → KernelState
+timer_start k run =
+    answered (record k { timers = started (timer_of k run) k.timers }) (start_answer (timer_of k run) k.timers)
+
+-- `timer_stop` stops the module's timer with the id in R24 and answers 0, or answers 1 where there is none.
+abbrev pub stop_answer : Bool → ℕ
+stop_answer true = 0
+stop_answer false = 1
+
+abbrev pub stopped_timer : ℕ → ℕ → KernelState → KernelState
+stopped_timer «module» id k =
+    answered (record k { timers = without_timer «module» id k.timers }) (stop_answer (list_any (is_of «module» id) k.timers))
+
+abbrev pub timer_stop : KernelState → Running → KernelState
+timer_stop k run = stopped_timer (id_at k.modules run.domain) (register k.processor 24) k
+
 -- `send` writes a packet's line and answers 0: for R25:R24, of the type in R22, with as many bytes as R21:R20 says of the caller's
 -- block that begins at R19:R18. The block stays. It answers 1 where they are too many for a packet. A block that isn't the
 -- caller's or hasn't so many bytes is refused first.
@@ -178,6 +215,8 @@ serve (Some ChangeOwn) run k = change_own k run
 serve (Some PostShort) run k = comes_back (post_short k run) []
 serve (Some PostLong) run k = post_long k run
 serve (Some Take) run k = comes_back (take_payload k run) []
+serve (Some TimerStart) run k = comes_back (timer_start k run) []
+serve (Some TimerStop) run k = comes_back (timer_stop k run) []
 serve (Some Say) run k = say k run
 serve (Some Clock) run k = comes_back (clock k) []
 serve (Some Send) run k = send k run

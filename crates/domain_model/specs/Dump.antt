@@ -1,6 +1,7 @@
 -- What a dump prints: the modules by their domains, the blocks by their addresses, the messages that wait in the order in which they are
--- taken.
+-- taken, the timers in the order in which they fire.
 use Rattle.std.specs.Prelude.{ℕ, zero, suc, ◌*◌, ◌==◌, List, [], ◌∷◌, ◌++◌, map, Bool, true, false, Option, Some, None, if◌then◌else◌}
+use Rattle.mote_base.specs.declared.timer.Timer.{Timer}
 use Rattle.mote_layout.specs.Memory.{block_bytes, domain_count, kernel}
 use Rattle.mote_layout.specs.Blocks.{block_address}
 use Rattle.mote_layout.specs.declared.segment.Segment.{Segment}
@@ -33,8 +34,11 @@ block_line modules s = line.DumpBlock (block_address s.first) (block_bytes * s.c
 abbrev pub message_line : Bool → Message → TraceLine
 message_line high m = line.DumpMsg high m.from m.to m.sort (payload_address m.load)
 
+abbrev pub timer_line : Timer → TraceLine
+timer_line t = line.DumpTimer t.«module» t.id t.due
+
 -- A dump changes nothing.
 abbrev pub dumped : KernelState → List TraceLine
 dumped k =
     line.Dump k.clock ∷ modules_dumped k.modules ++ map (block_line k.modules) k.blocks ++ map (message_line true) k.queues.high
-    ++ map (message_line false) k.queues.low ++ line.DumpEnd ∷ []
+    ++ map (message_line false) k.queues.low ++ map timer_line k.timers ++ line.DumpEnd ∷ []

@@ -1,6 +1,7 @@
 -- The lines of a script in two lists, each in the script's order: the packets that come by radio, and the events that are for the
 -- loader. The first of each is the next of its kind.
 use Rattle.std.specs.Prelude.{ℕ, nat_le, min, Option, Some, None, slice_get, Bool, false, List, [], ◌∷◌, map}
+use Rattle.mote_base.specs.declared.timer.Timer.{Timer}
 use Rattle.domain_model.specs.declared.event.LoaderEvent.{LoaderEvent}
 use Rattle.domain_model.specs.declared.event.LoaderOrder.TheVariants as order
 use Rattle.domain_model.specs.declared.event.Packet.{Packet}
@@ -46,12 +47,15 @@ abbrev pub packets_in : List Event → List Packet
 packets_in [] = []
 packets_in (e ∷ events) = onto_packets (packet_of e) (packets_in events)
 
--- the times of both
+-- the times of both, and the due moments of timers
 abbrev pub event_times : List LoaderEvent → List ℕ
 event_times events = map (λ (e : LoaderEvent). e.time) events
 
 abbrev pub packet_times : List Packet → List ℕ
 packet_times packets = map (λ (p : Packet). p.time) packets
+
+abbrev pub timer_times : List Timer → List ℕ
+timer_times timers = map (λ (t : Timer). t.due) timers
 
 -- The first of these times has come.
 abbrev pub is_due : List ℕ → ℕ → Bool
@@ -64,6 +68,7 @@ earlier None other = other
 earlier (Some time) None = Some time
 earlier (Some time) (Some other) = Some (min time other)
 
--- the time at which the next line of the script is due; none where no line is to come
-abbrev pub next_time : List Packet → List LoaderEvent → Option ℕ
-next_time packets events = earlier (slice_get (packet_times packets) 0) (slice_get (event_times events) 0)
+-- the time at which the next line of the script or the next timer is due; none where none is to come
+abbrev pub next_time : List Packet → List LoaderEvent → List Timer → Option ℕ
+next_time packets events timers =
+    earlier (earlier (slice_get (packet_times packets) 0) (slice_get (event_times events) 0)) (slice_get (timer_times timers) 0)

@@ -1,5 +1,5 @@
--- What a file is that came to a module, to a refusal or to neither, in the words of images and of code.
-use Rattle.std.specs.Prelude.{◌≡◌, ◌⊎◌, ℕ, ◌<◌, List, [], ◌∷◌, length, slice_index, true, false, Option, Some, None, Ok, Err, ⊤}
+-- What a file is that came to a module or to a refusal, in the words of images and of code.
+use Rattle.std.specs.Prelude.{◌≡◌, ◌⊎◌, ℕ, ◌<◌, List, [], ◌∷◌, length, slice_index, true, false, Ok, Err, ⊤}
 use Rattle.std.specs.List.{AllByRecursion}
 use Rattle.unit_code.specs.declared.unit.Unit.{Unit}
 use Rattle.unit_code.specs.declared.error.CodeError.{CodeError}
@@ -8,11 +8,10 @@ use Rattle.unit_code.specs.Spelling.{Spells}
 use Rattle.unit_code.specs.Units.{places_of, units_of}
 use Rattle.harbor_verify.specs.declared.error.VerifyError.{VerifyError}
 use Rattle.harbor_verify.specs.Law.{IsFirst as IsFirstVerdict}
-use Rattle.module_image.specs.Contents.{Contents, first_version, second_version}
+use Rattle.module_image.specs.Contents.{Contents}
 use Rattle.module_image.specs.Spelling.{Image}
 use Rattle.domain_model.specs.declared.refusal.Refusal.TheVariants as why
 use Rattle.domain_model.specs.Prepared.{Module, Prep, marks_of, prepared}
-use Rattle.domain_model.specs.Units.{are_built}
 
 -- The units with these numbers begin at these words, one for each.
 abbrev pub BeginAt : List ℕ → List ℕ → List ℕ → Type 0
@@ -41,33 +40,25 @@ pub record AreSpelledIn (units : List Unit) (numbers : List ℕ) (c : Contents) 
 abbrev pub AreUnitsOf : List Unit → List ℕ → Contents → Type 0
 AreUnitsOf units numbers c = AreReadFrom units numbers c ⊎ AreSpelledIn units numbers c
 
--- The module of an image of the first version whose code is not refused: it shows the image's face and asks for its state,
--- its units are those of the code and can run, its handler begins at the handler word, and each function that it provides at that
--- function's word.
+-- The module of an image whose code is not refused: it shows the image's face, asks for its state, has its constants and is sealed
+-- where it is; its units are those of the code, its handler begins at the handler word, and each function that it provides
+-- at that function's word.
 pub record IsModuleOf (m : Module) (c : Contents) : Type 0 where
-  pub first : c.version ≡ first_version
   pub code : AreUnitsOf m.units (m.handler ∷ m.entries) c
   pub face : m.face ≡ c.face
   pub state_size : m.state_size ≡ c.state_size
-  pub built : are_built m.units ≡ true
+  pub constants : m.constants ≡ c.constants
+  pub sealed : m.sealed ≡ c.sealed
 
--- The first condition that refuses the code of an image of the first version that no rewriter made.
+-- The first condition that refuses the code of an image that no rewriter made.
 pub record IsRefusalOf (e : CodeError) (c : Contents) : Type 0 where
   pub original : c.rewritten ≡ false
-  pub version : c.version ≡ first_version
   pub first : IsFirst c.code (marks_of c) c.sealed e
 
--- The first condition that stands against the words of a rewriter's image of the first version.
+-- The first condition that stands against the words of a rewriter's image.
 pub record IsVerdictOn (e : VerifyError) (c : Contents) : Type 0 where
   pub rewritten : c.rewritten ≡ true
-  pub version : c.version ≡ first_version
   pub first : IsFirstVerdict c.code (marks_of c) c.sealed e
-
--- The image is of the second version, or its code is not refused, and a unit of it can't run.
-abbrev pub IsNotBuilt : Contents → Type 0
-IsNotBuilt c =
-    (c.version ≡ second_version)
-    ⊎ ((units : List Unit) × (numbers : List ℕ) × AreUnitsOf units numbers c × (are_built units ≡ false))
 
 -- The file is an image, of whose contents this holds.
 pub record IsImageWith (P : Contents → Type 0) (file : List ℕ) : Type 0 where
@@ -75,12 +66,11 @@ pub record IsImageWith (P : Contents → Type 0) (file : List ℕ) : Type 0 wher
   pub image : Image file contents
   pub holds : P contents
 
-abbrev pub ComesTo : Option Prep → List ℕ → Type 0
-ComesTo (Some (Ok m)) file = IsImageWith (IsModuleOf m) file
-ComesTo (Some (Err (why.Image e))) file = (c : Contents) → ¬ Image file c
-ComesTo (Some (Err (why.Code e))) file = IsImageWith (IsRefusalOf e) file
-ComesTo (Some (Err (why.Verify e))) file = IsImageWith (IsVerdictOn e) file
-ComesTo None file = IsImageWith IsNotBuilt file
+abbrev pub ComesTo : Prep → List ℕ → Type 0
+ComesTo (Ok m) file = IsImageWith (IsModuleOf m) file
+ComesTo (Err (why.Image e)) file = (c : Contents) → ¬ Image file c
+ComesTo (Err (why.Code e)) file = IsImageWith (IsRefusalOf e) file
+ComesTo (Err (why.Verify e)) file = IsImageWith (IsVerdictOn e) file
 
 -- The law of files: each is what `prepared` makes of it.
 abbrev pub FilesAreAsPrepared : Type 0

@@ -1,9 +1,10 @@
 -- The bytes whose values a run leaves open, as an interrupt on the same stack and a kernel's own bytes would:
 -- at every unit the dead bytes of the stack, at every entry of the kernel the kernel's own bytes.
-use Rattle.std.specs.Prelude.{◌≡◌, ℕ, ◌+◌, ◌<◌, ◌&&◌, ◌||◌, nat_le, List, length, slice_index, Bool, true, false, Option, Some, None}
+use Rattle.std.specs.Prelude.{◌≡◌, ℕ, ◌+◌, ◌<◌, ◌&&◌, ◌||◌, nat_le, List, [], ◌∷◌, length, slice_index, Bool, true, false, Option, Some, None}
+use Rattle.mote_base.specs.declared.frame.Frame.{Frame}
 use Rattle.mote_layout.specs.Memory.{ram_start, red_zone_start, kernel_bytes_start, kernel_bytes_end}
 use Rattle.unit_code.specs.declared.unit.Unit.{Unit}
-use Rattle.unit_code.specs.declared.unit.Unit.TheVariants.{KernelCall, SlotCall, SlotIndirect}
+use Rattle.unit_code.specs.declared.unit.Unit.TheVariants.{KernelCall, SlotCall, SlotIndirect, Return}
 use Rattle.domain_model.specs.declared.handler.Running.{Running}
 use Rattle.domain_model.specs.declared.fault.UnitEnd.{UnitEnd}
 use Rattle.domain_model.specs.declared.fault.UnitEnd.TheVariants.{On, Over, Fault}
@@ -37,7 +38,8 @@ pub record SameState (free : ℕ → Bool) (want got : State) : Type 0 where
   pub kernel : SameKernel free want.kernel got.kernel
   pub rest : got ≡ record want { kernel = got.kernel }
 
--- A unit enters the kernel where it is a kernel call or a call of a slot, where it faults, and where it ends the handler.
+-- A unit enters the kernel where it is a kernel call or a call of a slot, where it returns to another domain's call, where it faults,
+-- and where it ends the handler.
 abbrev pub calls_kernel : Option Unit → Bool
 calls_kernel None = true
 calls_kernel (Some (KernelCall n)) = true
@@ -45,17 +47,26 @@ calls_kernel (Some (SlotCall i)) = true
 calls_kernel (Some SlotIndirect) = true
 calls_kernel (Some _) = false
 
+abbrev pub is_crossed : List Frame → Bool
+is_crossed [] = false
+is_crossed (f ∷ below) = f.cross
+
+abbrev pub crosses_back : Option Unit → List Frame → Bool
+crosses_back (Some Return) frames = is_crossed frames
+crosses_back _ frames = false
+
 abbrev pub ends_handler : UnitEnd → Bool
 ends_handler On = false
 ends_handler Over = true
 ends_handler (Fault note) = true
 
-abbrev pub enters_from : Option Running → RunnerState → UnitEnd → Bool
-enters_from None r ending = true
-enters_from (Some run) r ending = calls_kernel (next_unit r run) || ends_handler ending
+abbrev pub enters_from : Option Running → List Frame → RunnerState → UnitEnd → Bool
+enters_from None frames r ending = true
+enters_from (Some run) frames r ending =
+    calls_kernel (next_unit r run) || (crosses_back (next_unit r run) frames || ends_handler ending)
 
 abbrev pub enters_kernel : KernelState → RunnerState → Bool
-enters_kernel k r = enters_from k.running r (act k r).ending
+enters_kernel k r = enters_from k.running k.frames r (act k r).ending
 
 -- The dead bytes end at the stack pointer that the unit leaves; after a fault and after the handler's end, at
 -- the one that it found.

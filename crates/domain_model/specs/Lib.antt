@@ -1,6 +1,6 @@
 pub mod Bytes
 pub mod Command
-pub mod Units
+pub mod Services
 pub mod Prepared
 pub mod Files
 pub mod State
@@ -8,6 +8,7 @@ pub mod Modules
 pub mod Given
 pub mod Calls
 pub mod Others
+pub mod Frames
 pub mod Act
 pub mod Free
 pub mod Turn
@@ -16,6 +17,7 @@ pub mod Laws
 pub mod Events
 pub mod Payloads
 pub mod Radio
+pub mod Firing
 pub mod Dump
 pub mod Remaining
 pub mod Facts

@@ -14,6 +14,10 @@ module_at modules domain = find (λ m. m.domain == domain) modules
 abbrev pub id_at : List Loaded → ℕ → ℕ
 id_at modules domain = option_map_or (λ (m : Loaded). m.face.id) (module_at modules domain) 0
 
+-- the address of its constants; 0 where there is no module, and where it has none
+abbrev pub constants_at : List Loaded → ℕ → ℕ
+constants_at modules domain = option_map_or (λ (m : Loaded). m.constants) (module_at modules domain) 0
+
 -- A module is loaded in that domain.
 abbrev pub in_use : List Loaded → ℕ → Bool
 in_use modules domain = list_any (λ m. m.domain == domain) modules

@@ -1,5 +1,7 @@
--- What a kernel call leaves as it was: everything but its answer, the queues, the caller's own blocks, and the payload that it takes.
+-- What a kernel call leaves as it was: everything but its answer, the queues, the caller's own blocks and timers, and the payload that it
+-- takes.
 use Rattle.std.specs.Prelude.{◌≡◌, ◌≢◌, ◌⊎◌, ℕ, ◌+◌, [], length, slice_index, true, false, Option, Some, None}
+use Rattle.mote_base.specs.Timers.{without_module}
 use Rattle.mote_layout.specs.Memory.{ram_start, ram_bytes, kernel}
 use Rattle.mote_layout.specs.Blocks.{AreBlocks, owns}
 use Rattle.mote_layout.specs.Parcels.{Payload}
@@ -11,7 +13,7 @@ use Rattle.domain_model.specs.declared.fault.Served.TheVariants.{Back, Fault}
 use Rattle.domain_model.specs.State.{Message, KernelState, Processor, register, pair}
 use Rattle.domain_model.specs.Modules.{id_at}
 use Rattle.domain_model.specs.Payloads.{load_of, IsHeld}
-use Rattle.domain_model.specs.Units.{Service, Free, ChangeOwn, PostLong, Send}
+use Rattle.domain_model.specs.Services.{Service, Free, ChangeOwn, PostLong, Send}
 use Rattle.domain_model.specs.Calls.{Serving, serve}
 
 -- A byte of a block that was given out: it is 0, the caller has it now, and nobody had it.
@@ -30,8 +32,9 @@ pub record TakesPayload (k : KernelState) (run : Running) (new : KernelState) : 
   pub without : new.hand ≡ Some (record message { load = None })
 
 -- All registers stay but R25:R24, SREG and SP stay, and each byte that changes was given out. Every other owner keeps its blocks, but for
--- the kernel's where the caller takes a payload, which the caller has then; and what another owner has besides was the caller's. The clock,
--- the modules, what runs and the module that ends stay, and so does the message in hand but for a payload that is taken.
+-- the kernel's where the caller takes a payload, which the caller has then; and what another owner has besides was the caller's. Every
+-- other module keeps its timers. The clock, the modules, what runs, the frames and the module that ends stay, and so does the message in
+-- hand but for a payload that is taken.
 pub record LeavesOthers (k : KernelState) (run : Running) (new : KernelState) : Type 0 where
   pub registers : (d : ℕ) → d ≢ 24 → d ≢ 25 → register new.processor d ≡ register k.processor d
   pub status : (new.processor.sreg ≡ k.processor.sreg) × (new.processor.sp ≡ k.processor.sp)
@@ -39,7 +42,8 @@ pub record LeavesOthers (k : KernelState) (run : Running) (new : KernelState) : 
   pub kept : (owner address : ℕ) → owner ≢ run.domain → owns k.blocks owner address ≡ true → (owns new.blocks owner address ≡ true) ⊎ ((owner ≡ kernel) × TakesPayload k run new × (owns new.blocks run.domain address ≡ true))
   pub handed : (owner address : ℕ) → owner ≢ run.domain → owns new.blocks owner address ≡ true → (owns k.blocks owner address ≡ true) ⊎ (owns k.blocks run.domain address ≡ true)
   pub hand : (new.hand ≡ k.hand) ⊎ TakesPayload k run new
-  pub rest : new ≡ record k { processor = new.processor; blocks = new.blocks; queues = new.queues; hand = new.hand }
+  pub timers : without_module (id_at k.modules run.domain) new.timers ≡ without_module (id_at k.modules run.domain) k.timers
+  pub rest : new ≡ record k { processor = new.processor; blocks = new.blocks; queues = new.queues; timers = new.timers; hand = new.hand }
 
 -- What a call asks of the caller's blocks: one that begins at an address and has so many bytes.
 pub record BlockArgument : Type 0 where

@@ -1,5 +1,5 @@
 -- What the file of an image holds.
-use Rattle.std.specs.Prelude.{ℕ, ◌==◌, List, ◌∷◌, drop, map, slice_index, Bool, true, false, Option, Some, None, unwrap_or, Result, Ok, Err, if◌then◌else◌}
+use Rattle.std.specs.Prelude.{ℕ, List, ◌∷◌, drop, map, slice_index, Bool, true, false, Option, Some, None, unwrap_or, Result, Ok, Err}
 use Rattle.std.specs.List.{filter_map}
 use Rattle.unit_code.specs.declared.unit.Unit.{Unit}
 use Rattle.unit_code.specs.declared.error.CodeError.{CodeError}
@@ -13,21 +13,23 @@ use Rattle.harbor_verify.specs.Verdict.{refusal as verify_refusal, units_in}
 use Rattle.harbor_verify.specs.Walks.{starts_in}
 use Rattle.module_image.specs.declared.face.Face.{Face}
 use Rattle.module_image.specs.declared.error.ImageError.{ImageError}
-use Rattle.module_image.specs.Contents.{Contents, second_version}
+use Rattle.module_image.specs.Contents.{Contents}
 use Rattle.module_image.specs.Reading.{image_of}
 use Rattle.module_image.specs.Refusal.{number_of, value_of}
 use Rattle.domain_model.specs.declared.refusal.Refusal.{Refusal}
 use Rattle.domain_model.specs.declared.refusal.Refusal.TheVariants.{Image, Code, Verify}
-use Rattle.domain_model.specs.Units.{are_built}
 
 -- A module that may be loaded: what it shows to others, the bytes of state that it asks for, the unit at which a
--- dispatch starts, the units at which the functions that it provides begin, and its units.
+-- dispatch starts, the units at which the functions that it provides begin, its units, its constants, and whether its
+-- loads are checked.
 pub record Module : Type 0 where
   pub face : Face
   pub state_size : ℕ
   pub handler : ℕ
   pub entries : List ℕ
   pub units : List Unit
+  pub constants : List ℕ
+  pub sealed : Bool
 
 -- What the line of a refused load tells of it: the number of the refusal; the number of its kind; its word, byte,
 -- version or count; and the kind of a refused instruction, each 0 where there is none.
@@ -67,15 +69,13 @@ module_of c l =
       handler = slice_index l.marks 0;
       entries = drop 1 l.marks;
       units = l.units;
+      constants = c.constants;
+      sealed = c.sealed;
     }
 
--- Code with a unit that can't run yet is not built.
-abbrev pub prepared_units : Contents → Listing → Option Prep
-prepared_units c l = if are_built l.units then Some (Ok (module_of c l)) else None
-
-abbrev pub prepared_code : Contents → Option CodeError → Option Prep
-prepared_code c (Some e) = Some (Err (Code e))
-prepared_code c None = prepared_units c (listed c.code (marks_of c) c.sealed)
+abbrev pub prepared_code : Contents → Option CodeError → Prep
+prepared_code c (Some e) = Err (Code e)
+prepared_code c None = Ok (module_of c (listed c.code (marks_of c) c.sealed))
 
 -- What is told of rewritten words that are not refused: the units that they spell, where each unit's template starts, and the
 -- numbers of the units whose templates start at the marks.
@@ -86,27 +86,19 @@ spelled words marks = record {
   marks = filter_map (unit_number (starts_in words)) marks;
 }
 
-abbrev pub prepared_words : Contents → Option VerifyError → Option Prep
-prepared_words c (Some e) = Some (Err (Verify e))
-prepared_words c None = prepared_units c (spelled c.code (marks_of c))
+abbrev pub prepared_words : Contents → Option VerifyError → Prep
+prepared_words c (Some e) = Err (Verify e)
+prepared_words c None = Ok (module_of c (spelled c.code (marks_of c)))
 
--- An image of the first version, which a rewriter made or none did.
-abbrev pub prepared_first : Bool → Contents → Option Prep
-prepared_first true c = prepared_words c (verify_refusal c.code (marks_of c) c.sealed)
-prepared_first false c = prepared_code c (refusal c.code (marks_of c) c.sealed)
+-- An image, which a rewriter made or none did.
+abbrev pub prepared_contents : Bool → Contents → Prep
+prepared_contents true c = prepared_words c (verify_refusal c.code (marks_of c) c.sealed)
+prepared_contents false c = prepared_code c (refusal c.code (marks_of c) c.sealed)
 
--- An image of the second version is not built.
-abbrev pub is_unbuilt : Contents → Bool
-is_unbuilt c = c.version == second_version
+abbrev pub prepared_image : Result Contents ImageError → Prep
+prepared_image (Err e) = Err (Image e)
+prepared_image (Ok c) = prepared_contents c.rewritten c
 
-abbrev pub prepared_contents : Bool → Contents → Option Prep
-prepared_contents true c = None
-prepared_contents false c = prepared_first c.rewritten c
-
-abbrev pub prepared_image : Result Contents ImageError → Option Prep
-prepared_image (Err e) = Some (Err (Image e))
-prepared_image (Ok c) = prepared_contents (is_unbuilt c) c
-
--- What the file comes to: a module, or the first refusal of its fields or of its code; none where it is not built.
-abbrev pub prepared : List ℕ → Option Prep
+-- What the file comes to: a module, or the first refusal of its fields or of its code.
+abbrev pub prepared : List ℕ → Prep
 prepared bytes = prepared_image (image_of bytes)

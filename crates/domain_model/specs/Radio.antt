@@ -1,7 +1,7 @@
 -- Packets that come by radio.
-use Rattle.std.specs.Prelude.{◌-◌, ◌==◌, nat_lt, List, [], ◌∷◌, length, Bool, true, false, Option, Some, None}
+use Rattle.std.specs.Prelude.{◌==◌, nat_lt, List, [], ◌∷◌, length, Bool, true, false, Option, Some, None}
 use Rattle.mote_base.specs.Messages.{appended, queue_limit}
-use Rattle.mote_layout.specs.Memory.{ram_start, kernel}
+use Rattle.mote_layout.specs.Memory.{kernel}
 use Rattle.mote_layout.specs.Blocks.{block_of}
 use Rattle.mote_layout.specs.Parcels.{Payload}
 use Rattle.domain_model.specs.declared.event.Packet.{Packet}
@@ -9,9 +9,9 @@ use Rattle.domain_model.specs.declared.line.Why.{Why}
 use Rattle.domain_model.specs.declared.line.Why.TheVariants as why
 use Rattle.domain_model.specs.declared.line.TraceLine.{TraceLine}
 use Rattle.domain_model.specs.declared.line.TraceLine.TheVariants as line
-use Rattle.domain_model.specs.State.{Message, radio, KernelState, with_bytes}
+use Rattle.domain_model.specs.State.{Message, radio, KernelState}
 use Rattle.domain_model.specs.Modules.{is_loaded}
-use Rattle.domain_model.specs.Given.{Given, given, with_given}
+use Rattle.domain_model.specs.Given.{Given, given, filled_with, with_given}
 
 -- The kernel after a packet came, and the lines that were written of it.
 pub record Hearing : Type 0 where
@@ -37,7 +37,7 @@ queued p load k =
 
 -- what was given out, with a packet's bytes at its beginning
 abbrev pub filled : Packet → Given → Given
-filled p g = record g { memory = with_bytes g.memory (g.address - ram_start) p.bytes }
+filled p g = filled_with p.bytes g
 
 -- the payload that a packet's bytes are where they were put
 abbrev pub payload_in : Packet → Given → Payload

@@ -1,9 +1,11 @@
 -- The state of the machine.
-use Rattle.std.specs.Prelude.{ℕ, List, [], ◌-◌, ◌∷◌, ◌++◌, Option, Some, None, replicate, take, drop, map, if◌then◌else◌}
+use Rattle.std.specs.Prelude.{ℕ, Bool, List, [], ◌-◌, ◌∷◌, ◌++◌, Option, Some, None, replicate, take, drop, map, if◌then◌else◌}
 use Rattle.mote_layout.specs.Memory.{ram_start, register_count, message_frame, message_frame_bytes, domain_count, stack_top}
 use Rattle.mote_layout.specs.Blocks.{block_address}
 use Rattle.mote_layout.specs.Parcels.{Payload}
+use Rattle.mote_base.specs.declared.frame.Frame.{Frame}
 use Rattle.mote_base.specs.declared.message.Msg.{Msg}
+use Rattle.mote_base.specs.declared.timer.Timer.{Timer}
 use Rattle.mote_base.specs.Messages.{Lists}
 use Rattle.mote_layout.specs.declared.segment.Segment.{Segment}
 use Rattle.avr_machine.specs.Processor.{Processor as CountingProcessor, register as register_of, pair as pair_of, low, high, no_processor as no_counting_processor}
@@ -39,26 +41,31 @@ radio = 255
 abbrev pub Message : Type 0
 Message = Msg Payload
 
--- A module that is loaded: what it shows to others, its domain, the address of its state block or 0 where it has
--- none, the unit at which a dispatch starts, and the units at which the functions that it provides begin.
+-- A module that is loaded: what it shows to others, its domain, the address of its state block and that of its constants, each
+-- 0 where it has none, the unit at which a dispatch starts, the units at which the functions that it provides begin, and
+-- whether its loads are checked.
 pub record Loaded : Type 0 where
   pub face : Face
   pub domain : ℕ
   pub state : ℕ
+  pub constants : ℕ
   pub handler : ℕ
   pub entries : List ℕ
+  pub sealed : Bool
 
 -- What the kernel keeps: the clock, the processor, the owned blocks of the heap, the loaded modules in the
--- order of their loads, the messages that wait, the domain that runs, the message in hand, and the id of the
--- module whose last message that is. Outside a handler no domain runs, no message is in hand and no module
--- ends, and the registers, SREG and SP mean nothing.
+-- order of their loads, the messages that wait, the timers in the order in which they fire, the domain that runs, the frames of the calls that have not returned with the
+-- last call first, the message in hand, and the id of the module whose last message that is. Outside a handler no domain runs,
+-- there is no frame, no message is in hand and no module ends, and the registers, SREG and SP mean nothing.
 pub record KernelState : Type 0 where
   pub clock : ℕ
   pub processor : Processor
   pub blocks : List Segment
   pub modules : List Loaded
   pub queues : Lists Message
+  pub timers : List Timer
   pub running : Option Running
+  pub frames : List Frame
   pub hand : Option Message
   pub ending : Option ℕ
 
@@ -68,12 +75,11 @@ pub record RunnerState : Type 0 where
   pub banks : List (List Unit)
   pub unit : ℕ
 
--- The whole: kernel and runner; the images by number, None for one that is not built; the script's packets still to come, and
--- its events for the loader; how many units a run and a handler may have, and have had; how the run stands.
+-- The whole: kernel and runner; what the images came to, by number; the script's packets still to come, and its events for the loader; how many units a run and a handler may have, and have had; how the run stands.
 pub record State : Type 0 where
   pub kernel : KernelState
   pub runner : RunnerState
-  pub images : List (Option Prep)
+  pub images : List Prep
   pub packets : List Packet
   pub events : List LoaderEvent
   pub unit_limit : ℕ
@@ -144,16 +150,16 @@ frame_of m =
     m.sort ∷ m.from ∷ m.to ∷ (if m.long then 1 else 0) ∷ m.byte ∷ low m.word ∷ high m.word ∷ low m.len ∷ high m.len
     ∷ low (payload_address m.load) ∷ high (payload_address m.load) ∷ replicate 5 0
 
--- The processor as a handler finds it: R23:R22 is the address of the message frame, R25:R24 that of the
--- module's state block, every other register and SREG are 0, and the stack is empty.
-abbrev pub dispatched : Processor → ℕ → Message → Processor
-dispatched p state m =
-    with_pair (with_pair (record {
+-- The processor as a handler finds it: R21:R20 is the address of the module's constants, R23:R22 that of the message frame,
+-- R25:R24 that of the module's state block, every other register and SREG are 0, and the stack is empty.
+abbrev pub dispatched : Processor → ℕ → ℕ → Message → Processor
+dispatched p state constants m =
+    with_pair (with_pair (with_pair (record {
       registers = replicate register_count 0;
       sreg = 0;
       sp = stack_top;
       memory = frame_of m ++ drop message_frame_bytes p.memory;
-    }) 22 message_frame) 24 state
+    }) 20 constants) 22 message_frame) 24 state
 
 -- At the beginning every byte and register is 0. (Of the kernel's bytes and of the stack the first turns
 -- leave nothing that this says, since they are free.)
@@ -168,7 +174,9 @@ no_kernel =
       blocks = [];
       modules = [];
       queues = record { high = []; low = [] };
+      timers = [];
       running = None;
+      frames = [];
       hand = None;
       ending = None;
     }
@@ -177,7 +185,7 @@ abbrev pub no_runner : RunnerState
 no_runner = record { banks = replicate domain_count []; unit = 0 }
 
 -- The state in which a run of prepared images begins.
-abbrev pub begins : List (Option Prep) → List Packet → List LoaderEvent → ℕ → ℕ → State
+abbrev pub begins : List Prep → List Packet → List LoaderEvent → ℕ → ℕ → State
 begins images packets events unit_limit handler_limit =
     record {
       kernel = no_kernel;

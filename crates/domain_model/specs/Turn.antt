@@ -1,7 +1,8 @@
 -- Turns and runs.
-use Rattle.std.specs.Prelude.{◌≡◌, ◌≢◌, ℕ, ◌+◌, ◌==◌, ◌||◌, nat_le, not, List, [], ◌∷◌, ◌++◌, drop, Bool, true, false, Option, Some, None, Ok, Err, slice_get, slice_set, ⊤}
-use Rattle.mote_layout.specs.Memory.{heap_end, stack_top}
+use Rattle.std.specs.Prelude.{◌≡◌, ◌≢◌, ℕ, ◌+◌, ◌==◌, ◌||◌, nat_le, not, List, [], ◌∷◌, ◌++◌, length, drop, Bool, true, false, Option, Some, None, Ok, Err, slice_get, slice_set, ⊤}
+use Rattle.mote_layout.specs.Memory.{heap_end, stack_top, kernel}
 use Rattle.mote_base.specs.Messages.{front, in_order, without_front, unnamed}
+use Rattle.mote_base.specs.Timers.{without_module}
 use Rattle.mote_layout.specs.Blocks.{without_owner}
 use Rattle.unit_code.specs.declared.unit.Unit.{Unit}
 use Rattle.domain_model.specs.declared.handler.Running.{Running}
@@ -10,7 +11,7 @@ use Rattle.domain_model.specs.declared.event.Packet.{Packet}
 use Rattle.domain_model.specs.declared.event.LoaderOrder.{LoaderOrder}
 use Rattle.domain_model.specs.declared.event.LoaderOrder.TheVariants as what
 use Rattle.domain_model.specs.declared.event.Choice.{Choice}
-use Rattle.domain_model.specs.declared.event.Choice.TheVariants.{Stays, Hears, Comes, Dispatches, Jumps, Idles, Budgets, Watches, Acts}
+use Rattle.domain_model.specs.declared.event.Choice.TheVariants.{Stays, Hears, Fires, Comes, Dispatches, Jumps, Idles, Budgets, Watches, Acts}
 use Rattle.domain_model.specs.declared.event.Turned.{Turned}
 use Rattle.domain_model.specs.declared.event.Turned.TheVariants.{More, EndIdle, EndBudget}
 use Rattle.domain_model.specs.declared.fault.FaultNote.{FaultNote}
@@ -22,12 +23,13 @@ use Rattle.domain_model.specs.declared.line.TraceLine.TheVariants as line
 use Rattle.domain_model.specs.declared.refusal.Refusal.{Refusal}
 use Rattle.domain_model.specs.Prepared.{Module, Prep, refusal_number, refusal_kind, refusal_value, refusal_detail}
 use Rattle.domain_model.specs.State.{Message, Loaded, KernelState, RunnerState, State, Input, start, dispatched}
-use Rattle.domain_model.specs.Events.{packet_times, is_due, next_time}
-use Rattle.domain_model.specs.Payloads.{load_of, without_load, without_payloads}
+use Rattle.domain_model.specs.Events.{packet_times, timer_times, is_due, next_time}
+use Rattle.domain_model.specs.Payloads.{load_of, kept_at, without_load, without_payloads}
 use Rattle.domain_model.specs.Radio.{Hearing, heard}
+use Rattle.domain_model.specs.Firing.{fired}
 use Rattle.domain_model.specs.Dump.{dumped}
-use Rattle.domain_model.specs.Modules.{id_at, is_loaded, module_named, free_domain, without_domain}
-use Rattle.domain_model.specs.Given.{Given, given, nothing_given, with_given}
+use Rattle.domain_model.specs.Modules.{id_at, constants_at, is_loaded, module_named, free_domain, without_domain}
+use Rattle.domain_model.specs.Given.{Given, given, nothing_given, filled_with, with_given}
 use Rattle.domain_model.specs.Act.{Acted}
 use Rattle.domain_model.specs.Free.{SameState, UnitStep, is_kernel_byte}
 
@@ -41,30 +43,45 @@ state_where false k domain size = given k domain size
 abbrev pub state_block : KernelState → ℕ → ℕ → Option Given
 state_block k domain size = state_where (size == 0) k domain size
 
--- the module is in
+-- The block of a module's constants: it is the kernel's, and has zeros behind them. A module without constants has none.
+abbrev pub constants_given : Option Given → List ℕ → Option Given
+constants_given None constants = None
+constants_given (Some g) constants = Some (filled_with constants g)
+
+abbrev pub constants_where : Bool → KernelState → List ℕ → Option Given
+constants_where true k constants = Some (nothing_given k)
+constants_where false k constants = constants_given (given k kernel (length constants)) constants
+
+abbrev pub constants_block : KernelState → List ℕ → Option Given
+constants_block k constants = constants_where (length constants == 0) k constants
+
+-- the module is in, with what was given to it
 abbrev pub admitted : KernelState → Loaded → Given → KernelState
 admitted k m g = record (with_given k g) { modules = k.modules ++ m ∷ [] }
 
--- the handler of the module in a domain, with its state block at an address, starts with a message
-abbrev pub begun : KernelState → ℕ → ℕ → Message → KernelState
-begun k domain state m =
+-- the handler of the module in a domain, with its state block and its constants at these addresses, starts with a message
+abbrev pub begun : KernelState → ℕ → ℕ → ℕ → Message → KernelState
+begun k domain state constants m =
     record k {
-      processor = dispatched k.processor state m;
+      processor = dispatched k.processor state constants m;
       running = Some (record { domain = domain; base = stack_top; bound = stack_top });
       hand = Some m;
     }
 
--- The handler is over. The payload in hand that was not taken is free.
+-- The handler is over, with all its calls. The payload in hand that was not taken is free.
 abbrev pub handler_ended : KernelState → KernelState
-handler_ended k = record k { running = None; hand = None; blocks = without_load (load_of k.hand) k.blocks }
+handler_ended k = record k { running = None; frames = []; hand = None; blocks = without_load (load_of k.hand) k.blocks }
 
--- The module with an id in a domain is out: its row, every block of its domain, and every message from or to it with its payload.
+-- The module with an id in a domain is out: its row, the block of its constants, every block of its domain, every message from or to it
+-- with its payload, and its timers.
 abbrev pub purged : KernelState → ℕ → ℕ → KernelState
 purged k id domain =
     record k {
       modules = without_domain domain k.modules;
-      blocks = without_owner domain (without_payloads id (in_order k.queues) k.blocks);
+      blocks = without_owner domain (without_payloads id (in_order k.queues)
+          (without_load (kept_at (constants_at k.modules domain)) k.blocks));
       queues = unnamed id k.queues;
+      timers = without_module id k.timers;
     }
 
 abbrev pub at_clock : KernelState → ℕ → KernelState
@@ -87,14 +104,14 @@ entered r unit = record r { unit = unit }
 -- Which turn comes next: the first of these that applies.
 
 -- Outside a handler: an event that is due for the loader; else the first message; else the clock jumps to the next line of the
--- script; else the run ends.
+-- script or to the next timer's moment; else the run ends.
 abbrev pub choose_time : Option ℕ → Choice
 choose_time (Some time) = Jumps time
 choose_time None = Idles
 
 abbrev pub choose_message : Option Message → State → Choice
 choose_message (Some m) s = Dispatches
-choose_message None s = choose_time (next_time s.packets s.events)
+choose_message None s = choose_time (next_time s.packets s.events s.kernel.timers)
 
 abbrev pub choose_event : Bool → LoaderEvent → State → Choice
 choose_event true e s = Comes e
@@ -118,10 +135,14 @@ abbrev pub choose_running : Option Running → State → Choice
 choose_running None s = choose_outside s.events s
 choose_running (Some run) s = choose_inside (s.total == s.unit_limit) run s
 
--- A packet that is due comes before all else, in a handler too.
+-- A packet that is due comes before all else, and then a timer that is, in a handler too.
+abbrev pub choose_timer : Bool → State → Choice
+choose_timer true s = Fires
+choose_timer false s = choose_running s.kernel.running s
+
 abbrev pub choose_packet : Bool → State → Choice
 choose_packet true s = Hears
-choose_packet false s = choose_running s.kernel.running s
+choose_packet false s = choose_timer (is_due (timer_times s.kernel.timers) s.kernel.clock) s
 
 abbrev pub choose_ended : Turned → State → Choice
 choose_ended More s = choose_packet (is_due (packet_times s.packets) s.kernel.clock) s
@@ -160,24 +181,40 @@ init_to id = kernel_message id 0
 abbrev pub final_to : ℕ → Message
 final_to id = kernel_message id 1
 
--- the module is loaded, and its handler starts at once
-abbrev pub seated : Module → ℕ → Given → Loaded
-seated m domain g = record { face = m.face; domain = domain; state = g.address; handler = m.handler; entries = m.entries }
-
-abbrev pub loaded : Module → ℕ → Given → KernelState → RunnerState → Moved
-loaded m domain g k r =
+-- The module in a domain, with its state at an address and its constants where they were given. What was given last has
+-- both blocks.
+abbrev pub seated : Module → ℕ → ℕ → Given → Loaded
+seated m domain state g =
     record {
-      kernel = begun (admitted k (seated m domain g) g) domain g.address (init_to m.face.id);
-      runner = entered (placed r domain m.units) m.handler;
-      lines = line.Load k.clock m.face.id domain g.address ∷ line.Run k.clock m.face.id 0 0 ∷ [];
+      face = m.face;
+      domain = domain;
+      state = state;
+      constants = g.address;
+      handler = m.handler;
+      entries = m.entries;
+      sealed = m.sealed;
     }
 
--- A file that holds no module is refused as 1 where it is no image and as 2 where its code has no units. Else a load is
--- refused as 4 where a module with the id is loaded, else as 5 where no domain is free, else as 6
--- where no run of blocks is long enough for the state.
+-- the module is loaded, and its handler starts at once
+abbrev pub loaded : Module → ℕ → ℕ → Given → KernelState → RunnerState → Moved
+loaded m domain state g k r =
+    record {
+      kernel = begun (admitted k (seated m domain state g) g) domain state g.address (init_to m.face.id);
+      runner = entered (placed r domain m.units) m.handler;
+      lines = line.Load k.clock m.face.id domain state ∷ line.Run k.clock m.face.id 0 0 ∷ [];
+    }
+
+-- A file that holds no module is refused as 1 where it is no image, as 2 where its code has no units, and as 3 where a rewriter's
+-- words spell none. Else a load is refused as 4 where a module with the id is loaded, else as 5 where no domain is free, else as 6
+-- where no run of blocks is long enough for the state, or none beside it for the constants: then neither is given.
+abbrev pub load_beside : Option Given → ℕ → Module → ℕ → ℕ → KernelState → RunnerState → Moved
+load_beside None state m domain image k r = refused 6 image k r
+load_beside (Some g) state m domain image k r = loaded m domain state g k r
+
 abbrev pub load_given : Option Given → Module → ℕ → ℕ → KernelState → RunnerState → Moved
 load_given None m domain image k r = refused 6 image k r
-load_given (Some g) m domain image k r = loaded m domain g k r
+load_given (Some g) m domain image k r =
+    load_beside (constants_block (with_given k g) m.constants) g.address m domain image k r
 
 abbrev pub load_in : Option ℕ → Module → ℕ → KernelState → RunnerState → Moved
 load_in None m image k r = refused 5 image k r
@@ -191,29 +228,28 @@ abbrev pub load_prepared : Prep → ℕ → KernelState → RunnerState → Move
 load_prepared (Err refusal) image k r = refused_file refusal image k r
 load_prepared (Ok m) image k r = load_new (is_loaded k.modules m.face.id) m image k r
 
--- An image that is not built is not run: the command refuses it. So nothing is said of its load.
-abbrev pub load_image : Option (Option Prep) → ℕ → KernelState → RunnerState → Moved
+-- A script names no image that there isn't.
+abbrev pub load_image : Option Prep → ℕ → KernelState → RunnerState → Moved
 load_image None image k r = record { kernel = k; runner = r; lines = [] }
-load_image (Some None) image k r = record { kernel = k; runner = r; lines = [] }
-load_image (Some (Some prep)) image k r = load_prepared prep image k r
+load_image (Some prep) image k r = load_prepared prep image k r
 
 -- An unload of an id that no module has writes so. Else FINAL is dispatched, with the module as the one that ends.
 abbrev pub unload_module : Option Loaded → ℕ → KernelState → RunnerState → Moved
 unload_module None id k r = record { kernel = k; runner = r; lines = line.Absent k.clock id ∷ [] }
 unload_module (Some m) id k r =
     record {
-      kernel = record (begun k m.domain m.state (final_to id)) { ending = Some id };
+      kernel = record (begun k m.domain m.state m.constants (final_to id)) { ending = Some id };
       runner = entered r m.handler;
       lines = line.Run k.clock id 1 0 ∷ [];
     }
 
 -- A dump prints the state and changes nothing.
-abbrev pub came : List (Option Prep) → LoaderOrder → KernelState → RunnerState → Moved
+abbrev pub came : List Prep → LoaderOrder → KernelState → RunnerState → Moved
 came images (what.Load n) k r = load_image (slice_get images n) n k r
 came images (what.Unload id) k r = unload_module (module_named k.modules id) id k r
 came images what.Dump k r = record { kernel = k; runner = r; lines = dumped k }
 
--- The first packet comes. The runner stays where it is.
+-- The first packet comes, or the first timer fires. The runner stays where it is.
 abbrev pub moved_by : Hearing → RunnerState → Moved
 moved_by h r = record { kernel = h.kernel; runner = r; lines = h.lines }
 
@@ -226,7 +262,7 @@ abbrev pub deliver : Option Loaded → Message → KernelState → RunnerState �
 deliver None m k r = record { kernel = k; runner = r; lines = [] }
 deliver (Some receiver) m k r =
     record {
-      kernel = begun (record k { queues = without_front k.queues }) receiver.domain receiver.state m;
+      kernel = begun (record k { queues = without_front k.queues }) receiver.domain receiver.state receiver.constants m;
       runner = entered r receiver.handler;
       lines = line.Run k.clock receiver.face.id m.sort m.from ∷ [];
     }
@@ -252,7 +288,7 @@ abbrev pub close : Option ℕ → KernelState → RunnerState → List TraceLine
 close None k r lines = record { kernel = k; runner = r; lines = lines }
 close (Some id) k r lines = close_module (module_named k.modules id) k r lines
 
--- A handler that faults is over, and its module is purged.
+-- A handler that faults is over, and the module that ran is purged; its callers stay.
 abbrev pub faulted : FaultNote → Running → KernelState → RunnerState → List TraceLine → Moved
 faulted note run k r lines =
     close k.ending (purged (handler_ended k) (id_at k.modules run.domain) run.domain) (emptied r run.domain) (lines
@@ -295,6 +331,7 @@ watchdog s = record { rule = rule.Watchdog; address = s.kernel.processor.sp }
 abbrev pub made : Choice → State → Acted → Made
 made Stays s got = record { state = s; lines = [] }
 made Hears s got = made_of (record s { packets = drop 1 s.packets }) (hear (slice_get s.packets 0) s.kernel s.runner)
+made Fires s got = made_of s (moved_by (fired s.kernel) s.runner)
 made (Comes e) s got =
     made_of (record s { events = drop 1 s.events; spent = 0 }) (came s.images e.what s.kernel s.runner)
 made Dispatches s got =
@@ -310,6 +347,7 @@ made (Acts run) s got = counted s (settled got.ending run got.kernel got.runner 
 abbrev pub May : Choice → State → Acted → Type 0
 May Stays s got = ⊤
 May Hears s got = ⊤
+May Fires s got = ⊤
 May (Comes e) s got = ⊤
 May Dispatches s got = ⊤
 May (Jumps now) s got = ⊤
@@ -321,6 +359,7 @@ May (Acts run) s got = UnitStep s.kernel s.runner got
 abbrev pub Leaves : Choice → State → State → Type 0
 Leaves Stays want t = t ≡ want
 Leaves Hears want t = SameState is_kernel_byte want t
+Leaves Fires want t = SameState is_kernel_byte want t
 Leaves (Comes e) want t = SameState is_kernel_byte want t
 Leaves Dispatches want t = SameState is_kernel_byte want t
 Leaves (Jumps now) want t = SameState is_kernel_byte want t

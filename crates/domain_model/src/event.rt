@@ -52,11 +52,13 @@ pub enum Choice {
     Stays,
     /// A packet is due: the first comes, in a handler too.
     Hears,
+    /// A timer is due: the first fires, in a handler too.
+    Fires,
     /// An event of the script is due for the loader.
     Comes(LoaderEvent),
     /// A message waits: the first is dispatched.
     Dispatches,
-    /// Nothing is due and no message waits: the clock becomes this time, the next in the script.
+    /// Nothing is due and no message waits: the clock becomes this time, the next of the script's and the timers'.
     Jumps(u64),
     /// Nothing is due, waits or is to come: the run ends.
     Idles,

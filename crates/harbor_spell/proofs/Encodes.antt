@@ -1,7 +1,8 @@
 -- The instructions of templates that stand in a bank have their operands in range.
-use Rattle.std.proofs.Common.{◌≡◌, ℕ, ◌+◌, ◌-◌, ◌<◌, cond, ltb, not, Bool, true, false, List, ℤ, pos, negsuc, refl, sym, subst, arith, to_z, of_z, w16}
+use Rattle.std.proofs.Common.{◌≡◌, ℕ, ◌+◌, ◌≤◌, length, get_or, ◌-◌, ◌<◌, cond, ltb, not, Bool, true, false, List, ℤ, pos, negsuc, refl, sym, subst, arith, to_z, of_z, w16}
 use Rattle.std.specs.List.{AllByRecursion}
 use Rattle.std.proofs.lemmas.Int.{ints, to_z-of_z}
+use Rattle.std.proofs.lemmas.Option.{slice_get-get_or}
 use Rattle.avr_isa.specs.Operands.{IsBit, IsBranchOffset, IsEncodable, IsJumpOffset}
 use Rattle.avr_isa.specs.declared.instruction.Instr.{Instr}
 use Rattle.avr_isa.specs.declared.instruction.Instr.TheVariants as instr
@@ -9,11 +10,15 @@ use Rattle.unit_code.specs.declared.unit.Unit.{Unit}
 use Rattle.unit_code.specs.declared.unit.Unit.TheVariants as unit
 use Rattle.unit_code.specs.declared.unit.Shape.{Shape}
 use Rattle.unit_code.specs.declared.unit.Shape.TheVariants.{Long, Short}
-use Rattle.unit_code.specs.Proper.{IsOfKind}
+use Rattle.unit_code.specs.Beside.{form_words}
+use Rattle.unit_code.specs.declared.form.Form.{Form}
+use Rattle.unit_code.specs.Proper.{IsOfKind, IsProper}
 use Rattle.unit_code.specs.Spelled.{offset_to}
-use Rattle.unit_code.specs.Spelling.{MayHave, form_of, start_of}
+use Rattle.unit_code.specs.Spelling.{AreShapesOf, MayHave, form_of, start_of, starts_of}
 use Rattle.unit_code.specs.Templates.{IsForm, address_of, branch, guard_of, template}
 use Rattle.harbor_spell.specs.Placed.{IsPlaced}
+use Rattle.harbor_spell.proofs.Lengths.{form_length}
+use Rattle.harbor_spell.proofs.Placed.{all_at, may_have, placed, same_count, spelled-most}
 
 -- within a bank a jump reaches each word from each place
 jump_reaches : (place word : ℕ) → place < 2048 → word < 2048 → IsJumpOffset (offset_to place word)
@@ -90,3 +95,30 @@ templates_encode starts i (unit.LocalCall t) s h at may =
 templates_encode starts i (unit.KernelCall n) s h at may = (let k : n < 12 = h in omega arith, tt)
 templates_encode starts i (unit.SlotCall n) s h at may = (let k : n < 16 = h in omega arith, tt)
 templates_encode starts i _ s h at may = (omega arith, tt)
+
+-- The i-th unit's form, in its shape, can be spelled.
+abbrev pub IsSpellable : Form → Type 0
+IsSpellable f = IsForm f × AllByRecursion IsEncodable (template f) × (form_words f ≤ 5)
+
+abbrev pub unit_in : List Unit → ℕ → Unit
+unit_in us i = get_or us i (unit.Plain instr.Nop)
+
+abbrev pub shape_in : List Shape → ℕ → Shape
+shape_in ss i = get_or ss i Long
+
+pub spelled_at : (us : List Unit) (ss : List Shape) (starts : List ℕ) (sealed : Bool) (i : ℕ) → IsProper us sealed → AreShapesOf us ss → starts ≡ starts_of us ss → i < length us
+    → IsPlaced starts i (unit_in us i) (shape_in ss i) × IsSpellable (form_of starts i (start_of starts i) (unit_in us i) (shape_in ss i))
+spelled_at us ss starts sealed i proper shapes are inside =
+    let u = unit_in us i in
+    let s = shape_in ss i in
+    let at = slice_get-get_or us i (unit.Plain instr.Nop) inside in
+    let by = slice_get-get_or ss i Long (omega (arith, same_count (starts_of us ss) 0 us ss shapes, inside)) in
+    let kind = all_at IsOfKind us i u proper.kinds at in
+    let stands = placed us ss starts sealed i u s proper shapes are inside at by in (
+      stands,
+      (
+        form_kind starts i (start_of starts i) u s kind,
+        templates_encode starts i u s kind stands (may_have us ss starts i u s shapes are at by),
+        omega (arith, form_length starts i (start_of starts i) u s kind, spelled-most u s),
+      ),
+    )

@@ -1,12 +1,10 @@
 pub mod Added
-pub mod Candidates
 pub mod Emitted
 pub mod Encodes
-pub mod Fronts
 pub mod Joined
+pub mod Keys
 pub mod Lengths
 pub mod OneSpelling
-pub mod Openings
 pub mod Placed
 pub mod Standings
 pub mod Starts

@@ -1,9 +1,10 @@
 -- The units of a proper list stand in a bank, in whatever shapes they may have.
-use Rattle.std.proofs.Common.{◌≡◌, ◌∙◌, ℕ, zero, suc, ◌+◌, ◌≤◌, ◌<◌, Bool, true, false, List, [], ◌∷◌, length, get_or, Option, Some, None, refl, sym, ap, subst, arith}
+use Rattle.std.proofs.Common.{◌≡◌, ◌∙◌, ℕ, zero, suc, ◌+◌, ◌≤◌, ◌<◌, Bool, true, false, List, [], ◌∷◌, length, get_or, Some, None, refl, sym, ap, subst, arith}
 use Rattle.std.specs.Prelude.{slice_get}
 use Rattle.std.specs.List.{AllByRecursion}
 use Rattle.std.proofs.lemmas.List.Sums.{sum_by-cons}
 use Rattle.std.proofs.lemmas.Option.{same_Some}
+use Rattle.avr_isa.specs.declared.instruction.Instr.{Instr}
 use Rattle.avr_isa.specs.Place.{second_word}
 use Rattle.avr_isa.specs.Table.{word_count}
 use Rattle.mote_layout.specs.Memory.{bank_words}
@@ -16,45 +17,34 @@ use Rattle.unit_code.specs.Lengths.{instruction_length, spelled_length}
 use Rattle.unit_code.specs.Proper.{CanBeSkipped, IsProper, LeadsBelow, SkipsAreSound, SkipsTo}
 use Rattle.unit_code.specs.Spelling.{AreShapesFrom, AreShapesOf, MayHave, start_of, starts_after, starts_of}
 use Rattle.harbor_spell.specs.Placed.{IsPlaced, SkipsBelow}
-use Rattle.harbor_spell.proofs.Starts.{instruction_length-some}
 
--- a template has a word, and is no longer than in its long shape
-pub spelled-some : (u : Unit) (s : Shape) → 0 < spelled_length u s
-spelled-some (Plain i) s = instruction_length-some i
-spelled-some (Store i) s = omega arith
-spelled-some (Load i) s = omega arith
-spelled-some (SpGroup true) s = omega arith
-spelled-some (SpGroup false) s = omega arith
-spelled-some (Skip i) Long = omega arith
-spelled-some (Skip i) Short = omega arith
-spelled-some (Branch set bit t) Long = omega arith
-spelled-some (Branch set bit t) Short = omega arith
-spelled-some _ s = omega arith
+-- A template has a word, no more than in its long shape, and five at most.
+abbrev Bounded : Unit → Shape → Type 0
+Bounded u s = (0 < spelled_length u s) × (spelled_length u s ≤ spelled_length u Long) × (spelled_length u s ≤ 5)
+
+one_or_two : (i : Instr) → (0 < instruction_length i) × (instruction_length i ≤ 2)
+one_or_two i = elim (second_word i) as (λ o. (0 < word_count o) × (word_count o ≤ 2)) [ None ↦ (omega arith, omega arith) | Some k ↦ (omega arith, omega arith) ]
+
+spelled-bounds : (u : Unit) (s : Shape) → Bounded u s
+spelled-bounds (Plain i) s = let few = one_or_two i in (omega (arith, few), omega arith, omega (arith, few))
+spelled-bounds (Store i) s = let few = one_or_two i in (omega arith, omega arith, omega (arith, few))
+spelled-bounds (Load i) s = let few = one_or_two i in (omega arith, omega arith, omega (arith, few))
+spelled-bounds (SpGroup true) s = (omega arith, omega arith, omega arith)
+spelled-bounds (SpGroup false) s = (omega arith, omega arith, omega arith)
+spelled-bounds (Skip i) Long = (omega arith, omega arith, omega arith)
+spelled-bounds (Skip i) Short = (omega arith, omega arith, omega arith)
+spelled-bounds (Branch set bit t) Long = (omega arith, omega arith, omega arith)
+spelled-bounds (Branch set bit t) Short = (omega arith, omega arith, omega arith)
+spelled-bounds other s = (omega arith, omega arith, omega arith)
+
+spelled-some : (u : Unit) (s : Shape) → 0 < spelled_length u s
+spelled-some u s = (spelled-bounds u s).0
 
 pub spelled-least : (u : Unit) (s : Shape) → spelled_length u s ≤ spelled_length u Long
-spelled-least (SpGroup true) s = omega arith
-spelled-least (SpGroup false) s = omega arith
-spelled-least (Skip i) Long = omega arith
-spelled-least (Skip i) Short = omega arith
-spelled-least (Branch set bit t) Long = omega arith
-spelled-least (Branch set bit t) Short = omega arith
-spelled-least _ s = omega arith
-
-two_words : (o : Option ℕ) → word_count o ≤ 2
-two_words None = omega arith
-two_words (Some k) = omega arith
+spelled-least u s = (spelled-bounds u s).1
 
 pub spelled-most : (u : Unit) (s : Shape) → spelled_length u s ≤ 5
-spelled-most (Plain i) s = let few : instruction_length i ≤ 2 = two_words (second_word i) in omega arith
-spelled-most (Store i) s = let few : instruction_length i ≤ 2 = two_words (second_word i) in omega arith
-spelled-most (Load i) s = let few : instruction_length i ≤ 2 = two_words (second_word i) in omega arith
-spelled-most (SpGroup true) s = omega arith
-spelled-most (SpGroup false) s = omega arith
-spelled-most (Skip i) Long = omega arith
-spelled-most (Skip i) Short = omega arith
-spelled-most (Branch set bit t) Long = omega arith
-spelled-most (Branch set bit t) Short = omega arith
-spelled-most _ s = omega arith
+spelled-most u s = (spelled-bounds u s).2
 
 -- The lists of units and shapes are equally long.
 pub same_count : (starts : List ℕ) (i : ℕ) (us : List Unit) (ss : List Shape) → AreShapesFrom starts i us ss → length ss ≡ length us

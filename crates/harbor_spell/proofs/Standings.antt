@@ -1,154 +1,170 @@
--- From what an instruction stands for back to the instruction.
-use Rattle.std.proofs.Common.{◌≡◌, ℕ, zero, suc, ◌+◌, ◌<◌, ◌^◌, ◌==◌, ◌||◌, cond, Bool, true, false, Option, Some, None, pos, negsuc, ℤ, refl, ap, ltb}
-use Rattle.std.specs.Prelude.{⊤}
+-- What an instruction stands for tells the instruction.
+use Rattle.std.proofs.Common.{◌≡◌, ℕ, zero, suc, ◌+◌, ◌<◌, ◌^◌, ◌==◌, ◌||◌, Bool, true, false, cond, ltb, ℤ, pos, negsuc, Option, Some, None, refl, sym}
+use Rattle.std.specs.Prelude.{⊤, T}
+use Rattle.std.proofs.lemmas.Bool.{cond_both}
+use Rattle.avr_isa.specs.declared.instruction.Instr.TheVariants as instr
 use Rattle.avr_isa.specs.declared.instruction.Instr.{Instr}
-use Rattle.avr_isa.specs.declared.instruction.Instr.TheVariants.{Cpse, Sbrc, Sbrs, Push, Pop, StX, StdY, StdZ, Sts, StXInc, StXDec, StYInc, StYDec, StZInc, StZDec, LdXInc, LdXDec, LdYInc, LdYDec, LdZInc, LdZDec, In, Out, Ijmp, Jmp, LpmR0, LpmZ, LpmZInc, ElpmR0, ElpmZ, ElpmZInc, Spm, Reti, Sleep, Wdr, Break, Sbi, Cbi, Sbic, Sbis, Brbs, Brbc, Rjmp, Rcall, Call, Icall, Ret}
 use Rattle.avr_isa.specs.Place.{second_word}
+use Rattle.mote_layout.specs.declared.page.Entry.TheVariants as entry
 use Rattle.mote_layout.specs.declared.page.Entry.{Entry}
-use Rattle.mote_layout.specs.declared.page.Entry.TheVariants.{Kernel, Slot}
-use Rattle.mote_layout.specs.Page.{entry_at, kernel_call_count, slot_count}
-use Rattle.mote_layout.proofs.EntryPage.{entry_at-some}
-use Rattle.unit_code.specs.declared.unit.Unit.{Unit}
-use Rattle.unit_code.specs.declared.unit.Unit.TheVariants as unit
-use Rattle.unit_code.specs.declared.kinds.Standing.{Standing}
-use Rattle.unit_code.specs.declared.kinds.Standing.TheVariants.{NoInstruction, Barred, Part}
-use Rattle.unit_code.specs.declared.kinds.Piece.TheVariants as piece
-use Rattle.unit_code.specs.declared.kinds.Aim.TheVariants as aim
-use Rattle.unit_code.specs.Kinds.{is_spl_or_sph, is_sreg, off_pointer, standing_call, standing_entry, standing_in, standing_of, standing_out, standing_rcall, whole}
 use Rattle.mote_layout.specs.Memory.{pointer_x, pointer_y, pointer_z}
+use Rattle.mote_layout.specs.Page.{StandsAt, entry_at, kernel_call_count, slot_count}
+use Rattle.mote_layout.proofs.EntryPage.{entry_at-some}
+use Rattle.unit_code.specs.declared.kinds.Aim.TheVariants as aim
+use Rattle.unit_code.specs.declared.kinds.Piece.TheVariants as piece
+use Rattle.unit_code.specs.declared.kinds.Standing.TheVariants.{Barred, Part, NoInstruction}
+use Rattle.unit_code.specs.declared.kinds.Standing.{Standing}
+use Rattle.unit_code.specs.declared.unit.Unit.TheVariants as unit
+use Rattle.unit_code.specs.declared.unit.Unit.{Unit}
+use Rattle.unit_code.specs.Kinds.{is_spl_or_sph, is_sreg, off_pointer, standing_call, standing_entry, standing_of, standing_rcall, whole}
+use Rattle.unit_code.specs.Templates.{address_of, branch}
 
--- stores
+-- ST, STD and STS
+abbrev pub is_store : Instr → Bool
+is_store (instr.StX r) = true
+is_store (instr.StXInc r) = true
+is_store (instr.StXDec r) = true
+is_store (instr.StdY r q) = true
+is_store (instr.StYInc r) = true
+is_store (instr.StYDec r) = true
+is_store (instr.StdZ r q) = true
+is_store (instr.StZInc r) = true
+is_store (instr.StZDec r) = true
+is_store (instr.Sts r k) = true
+is_store other = false
+
 abbrev pub IsStore : Instr → Type 0
-IsStore (StX r) = ⊤
-IsStore (StdY r q) = ⊤
-IsStore (StdZ r q) = ⊤
-IsStore (Sts r k) = ⊤
-IsStore (StXInc r) = ⊤
-IsStore (StXDec r) = ⊤
-IsStore (StYInc r) = ⊤
-IsStore (StYDec r) = ⊤
-IsStore (StZInc r) = ⊤
-IsStore (StZDec r) = ⊤
-IsStore _ = ⊥
+IsStore i = T (is_store i)
 
-abbrev pub BackUnit : Instr → Unit → Type 0
-BackUnit i (unit.Plain x) = x ≡ i
-BackUnit i (unit.Store x) = (x ≡ i) × IsStore i
-BackUnit i (unit.Skip x) = (x ≡ i) × (second_word i ≡ None)
-BackUnit i (unit.Push r) = i ≡ Push r
-BackUnit i (unit.Pop d) = i ≡ Pop d
-BackUnit i (unit.KernelCall n) = (i ≡ Call (0xF100 + n)) × (n < kernel_call_count)
-BackUnit i (unit.SlotCall n) = (i ≡ Call (0xF200 + n)) × (n < slot_count)
-BackUnit i unit.Reserve = i ≡ Rcall (pos 0)
-BackUnit i unit.SlotIndirect = i ≡ Icall
-BackUnit i unit.Return = i ≡ Ret
-BackUnit i _ = ⊥
+-- the instruction that makes a unit, and of another standing the given one
+abbrev told_unit : Instr → Unit → Instr
+told_unit i (unit.Plain x) = x
+told_unit i (unit.Store x) = x
+told_unit i (unit.Skip x) = x
+told_unit i (unit.Push r) = instr.Push r
+told_unit i (unit.Pop d) = instr.Pop d
+told_unit i (unit.KernelCall n) = instr.Call (address_of (entry.Kernel n))
+told_unit i (unit.SlotCall n) = instr.Call (address_of (entry.Slot n))
+told_unit i unit.Reserve = instr.Rcall (pos 0)
+told_unit i unit.SlotIndirect = instr.Icall
+told_unit i unit.Return = instr.Ret
+told_unit i other = i
 
-abbrev pub Back : Instr → Standing → Type 0
-Back i NoInstruction = ⊥
-Back i (Barred kind) = ⊤
-Back i (Part (piece.Whole u)) = BackUnit i u
-Back i (Part (piece.Aimed (aim.Branching true bit) offset)) = i ≡ Brbs bit offset
-Back i (Part (piece.Aimed (aim.Branching false bit) offset)) = i ≡ Brbc bit offset
-Back i (Part (piece.Aimed aim.Jumping offset)) = i ≡ Rjmp offset
-Back i (Part (piece.Aimed aim.Calling offset)) = i ≡ Rcall offset
+abbrev told : Instr → Standing → Instr
+told i (Part (piece.Whole u)) = told_unit i u
+told i (Part (piece.Aimed (aim.Branching set bit) far)) = branch set bit far
+told i (Part (piece.Aimed aim.Jumping far)) = instr.Rjmp far
+told i (Part (piece.Aimed aim.Calling far)) = instr.Rcall far
+told i other = i
 
-by_test : (i : Instr) (b : Bool) (s t : Standing) → Back i s → Back i t → Back i (cond b s t)
-by_test i true s t holds fails = holds
-by_test i false s t holds fails = fails
+-- what is known of the instruction besides; no instruction alone makes one of the last units
+abbrev pub Suits : Instr → Standing → Type 0
+Suits i NoInstruction = ⊥
+Suits i (Part (piece.Whole (unit.Store x))) = IsStore i
+Suits i (Part (piece.Whole (unit.Skip x))) = second_word i ≡ None
+Suits i (Part (piece.Whole (unit.KernelCall n))) = n < kernel_call_count
+Suits i (Part (piece.Whole (unit.SlotCall n))) = n < slot_count
+Suits i (Part (piece.Whole (unit.Load x))) = ⊥
+Suits i (Part (piece.Whole (unit.SpGroup with_sreg))) = ⊥
+Suits i (Part (piece.Whole (unit.Branch set bit t))) = ⊥
+Suits i (Part (piece.Whole (unit.Jump t))) = ⊥
+Suits i (Part (piece.Whole (unit.LocalCall t))) = ⊥
+Suits i other = ⊤
 
-off_pointer_back : (i : Instr) (low r : ℕ) (u : Unit) → BackUnit i u → Back i (off_pointer low r u)
-off_pointer_back i low r u so = by_test i (r == low || r == low + 1) (Barred 6) (whole u) tt so
+abbrev pub IsTold : Instr → Standing → Type 0
+IsTold i st = (told i st ≡ i) × Suits i st
 
-in_back : (i : Instr) (port : ℕ) (u : Unit) → BackUnit i u → Back i (standing_in port u)
-in_back i port u so = by_test i (is_spl_or_sph port || is_sreg port) (whole u) (Barred 4) so tt
-
-out_back : (i : Instr) (port : ℕ) (u : Unit) → BackUnit i u → Back i (standing_out port u)
-out_back i port u so =
-    by_test i (is_sreg port) (whole u) (cond (is_spl_or_sph port) (Barred 5) (Barred 4)) so (by_test i (is_spl_or_sph port) (Barred 5) (Barred 4) tt tt)
-
-rcall_back : (offset : ℤ) → Back (Rcall offset) (standing_rcall offset)
-rcall_back (pos zero) = refl
-rcall_back (pos (suc k)) = refl
-rcall_back (negsuc k) = refl
-
-entry_back : (o : Option Entry) (address : ℕ) → entry_at address ≡ o → Back (Call address) (standing_entry o)
-entry_back None address is = tt
-entry_back (Some (Kernel n)) address is = let at = (entry_at-some address (Kernel n)).0 is in (ap Call at.1, at.0)
-entry_back (Some (Slot n)) address is = let at = (entry_at-some address (Slot n)).0 is in (ap Call at.1, at.0)
-entry_back (Some _) address is = tt
-
-pub call_back : (address : ℕ) → Back (Call address) (standing_call address)
-call_back address = by_test (Call address) (ltb address (2 ^ 16)) (standing_entry (entry_at address)) (Barred 7) (entry_back (entry_at address) address refl) tt
-
--- what the call of an address stands for
+-- A call of an address stands for the call of an entry of two kinds, or is barred.
 abbrev pub IsCalled : ℕ → Standing → Type 0
-IsCalled address (Part (piece.Whole (unit.KernelCall n))) = (address ≡ 0xF100 + n) × (n < kernel_call_count)
-IsCalled address (Part (piece.Whole (unit.SlotCall n))) = (address ≡ 0xF200 + n) × (n < slot_count)
-IsCalled address (Barred kind) = kind ≡ 7
-IsCalled address _ = ⊥
+IsCalled address (Barred kind) = ⊤
+IsCalled address (Part (piece.Whole (unit.KernelCall n))) = StandsAt (entry.Kernel n) address
+IsCalled address (Part (piece.Whole (unit.SlotCall n))) = StandsAt (entry.Slot n) address
+IsCalled address other = ⊥
 
-entry_called : (o : Option Entry) (address : ℕ) → entry_at address ≡ o → IsCalled address (standing_entry o)
-entry_called None address is = refl
-entry_called (Some (Kernel n)) address is = let at = (entry_at-some address (Kernel n)).0 is in (at.1, at.0)
-entry_called (Some (Slot n)) address is = let at = (entry_at-some address (Slot n)).0 is in (at.1, at.0)
-entry_called (Some _) address is = refl
+of_entry : (address : ℕ) (e : Option Entry) → entry_at address ≡ e → IsCalled address (standing_entry e)
+of_entry address (Some (entry.Kernel n)) at = (entry_at-some address (entry.Kernel n)).0 at
+of_entry address (Some (entry.Slot n)) at = (entry_at-some address (entry.Slot n)).0 at
+of_entry address other at = tt
 
 pub is_called : (address : ℕ) → IsCalled address (standing_call address)
-is_called address =
-    elim (ltb address (2 ^ 16)) as (λ b. IsCalled address (cond b (standing_entry (entry_at address)) (Barred 7))) [
-      | true ↦ entry_called (entry_at address) address refl
-      | false ↦ refl
-    ]
+is_called address = cond_both (ltb address (2 ^ 16)) (standing_entry (entry_at address)) (Barred 7) (IsCalled address) (λ _. of_entry address (entry_at address) refl) (λ _. tt)
 
--- what an instruction stands for is of that instruction
-pub back : (i : Instr) → Back i (standing_of i)
+call_told : (address : ℕ) (st : Standing) → IsCalled address st → IsTold (instr.Call address) st
+call_told address (Barred kind) so = (refl, tt)
+call_told address (Part (piece.Whole (unit.KernelCall n))) so = (let at = so.1 in cc, so.0)
+call_told address (Part (piece.Whole (unit.SlotCall n))) so = (let at = so.1 in cc, so.0)
+call_told address other so = absurd so
+
+-- the standings that hang on an operand
+either : (i : Instr) (b : Bool) (s t : Standing) → IsTold i s → IsTold i t → IsTold i (cond b s t)
+either i b s t one other = cond_both b s t (IsTold i) (λ _. one) (λ _. other)
+
+off : (i : Instr) (low r : ℕ) (u : Unit) → IsTold i (whole u) → IsTold i (off_pointer low r u)
+off i low r u so = either i (r == low || r == low + 1) (Barred 6) (whole u) (refl, tt) so
+
+relative : (far : ℤ) → IsTold (instr.Rcall far) (standing_rcall far)
+relative (pos zero) = (refl, tt)
+relative (pos (suc k)) = (refl, tt)
+relative (negsuc k) = (refl, tt)
+
+pub tells : (i : Instr) → IsTold i (standing_of i)
 unfolding standing_of
-back (Brbs bit offset) = refl
-back (Brbc bit offset) = refl
-back (Rjmp offset) = refl
-back (Rcall offset) = rcall_back offset
-back (Call address) = call_back address
-back Icall = refl
-back Ret = refl
-back (Cpse d r) = (refl, refl)
-back (Sbrc r b) = (refl, refl)
-back (Sbrs r b) = (refl, refl)
-back (StX r) = (refl, tt)
-back (StdY r q) = (refl, tt)
-back (StdZ r q) = (refl, tt)
-back (Sts r k) = (refl, tt)
-back (Push r) = refl
-back (Pop d) = refl
-back (StXInc r) = off_pointer_back (StXInc r) pointer_x r (unit.Store (StXInc r)) (refl, tt)
-back (StXDec r) = off_pointer_back (StXDec r) pointer_x r (unit.Store (StXDec r)) (refl, tt)
-back (StYInc r) = off_pointer_back (StYInc r) pointer_y r (unit.Store (StYInc r)) (refl, tt)
-back (StYDec r) = off_pointer_back (StYDec r) pointer_y r (unit.Store (StYDec r)) (refl, tt)
-back (StZInc r) = off_pointer_back (StZInc r) pointer_z r (unit.Store (StZInc r)) (refl, tt)
-back (StZDec r) = off_pointer_back (StZDec r) pointer_z r (unit.Store (StZDec r)) (refl, tt)
-back (LdXInc r) = off_pointer_back (LdXInc r) pointer_x r (unit.Plain (LdXInc r)) refl
-back (LdXDec r) = off_pointer_back (LdXDec r) pointer_x r (unit.Plain (LdXDec r)) refl
-back (LdYInc r) = off_pointer_back (LdYInc r) pointer_y r (unit.Plain (LdYInc r)) refl
-back (LdYDec r) = off_pointer_back (LdYDec r) pointer_y r (unit.Plain (LdYDec r)) refl
-back (LdZInc r) = off_pointer_back (LdZInc r) pointer_z r (unit.Plain (LdZInc r)) refl
-back (LdZDec r) = off_pointer_back (LdZDec r) pointer_z r (unit.Plain (LdZDec r)) refl
-back (In d port) = in_back (In d port) port (unit.Plain (In d port)) refl
-back (Out r port) = out_back (Out r port) port (unit.Plain (Out r port)) refl
-back Ijmp = tt
-back (Jmp k) = tt
-back LpmR0 = tt
-back (LpmZ d) = tt
-back (LpmZInc d) = tt
-back ElpmR0 = tt
-back (ElpmZ d) = tt
-back (ElpmZInc d) = tt
-back Spm = tt
-back Reti = tt
-back Sleep = tt
-back Wdr = tt
-back Break = tt
-back (Sbi A b) = tt
-back (Cbi A b) = tt
-back (Sbic A b) = tt
-back (Sbis A b) = tt
-back i = refl
+tells (instr.Call address) = call_told address (standing_call address) (is_called address)
+tells (instr.Rcall far) = relative far
+tells (instr.In d port) = either _ (is_spl_or_sph port || is_sreg port) _ (Barred 4) (refl, tt) (refl, tt)
+tells (instr.Out r port) = either _ (is_sreg port) _ _ (refl, tt) (either _ (is_spl_or_sph port) (Barred 5) (Barred 4) (refl, tt) (refl, tt))
+tells (instr.LdXInc d) = off _ pointer_x d _ (refl, tt)
+tells (instr.LdXDec d) = off _ pointer_x d _ (refl, tt)
+tells (instr.StXInc r) = off _ pointer_x r _ (refl, tt)
+tells (instr.StXDec r) = off _ pointer_x r _ (refl, tt)
+tells (instr.LdYInc d) = off _ pointer_y d _ (refl, tt)
+tells (instr.LdYDec d) = off _ pointer_y d _ (refl, tt)
+tells (instr.StYInc r) = off _ pointer_y r _ (refl, tt)
+tells (instr.StYDec r) = off _ pointer_y r _ (refl, tt)
+tells (instr.LdZInc d) = off _ pointer_z d _ (refl, tt)
+tells (instr.LdZDec d) = off _ pointer_z d _ (refl, tt)
+tells (instr.StZInc r) = off _ pointer_z r _ (refl, tt)
+tells (instr.StZDec r) = off _ pointer_z r _ (refl, tt)
+tells (instr.Cpse d r) = (refl, refl)
+tells (instr.Sbrc r b) = (refl, refl)
+tells (instr.Sbrs r b) = (refl, refl)
+tells other = (refl, tt)
+
+-- The same fact, said of each standing.
+abbrev pub Back : Instr → Standing → Type 0
+Back i (Barred kind) = ⊤
+Back i (Part (piece.Whole (unit.Plain x))) = x ≡ i
+Back i (Part (piece.Whole (unit.Store x))) = (x ≡ i) × IsStore i
+Back i (Part (piece.Whole (unit.Skip x))) = (x ≡ i) × (second_word i ≡ None)
+Back i (Part (piece.Whole (unit.KernelCall n))) = (i ≡ instr.Call (address_of (entry.Kernel n))) × (n < kernel_call_count)
+Back i (Part (piece.Whole (unit.SlotCall n))) = (i ≡ instr.Call (address_of (entry.Slot n))) × (n < slot_count)
+Back i (Part (piece.Whole (unit.Push r))) = i ≡ instr.Push r
+Back i (Part (piece.Whole (unit.Pop d))) = i ≡ instr.Pop d
+Back i (Part (piece.Whole unit.Reserve)) = i ≡ instr.Rcall (pos 0)
+Back i (Part (piece.Whole unit.SlotIndirect)) = i ≡ instr.Icall
+Back i (Part (piece.Whole unit.Return)) = i ≡ instr.Ret
+Back i (Part (piece.Aimed (aim.Branching true bit) far)) = i ≡ instr.Brbs bit far
+Back i (Part (piece.Aimed (aim.Branching false bit) far)) = i ≡ instr.Brbc bit far
+Back i (Part (piece.Aimed aim.Jumping far)) = i ≡ instr.Rjmp far
+Back i (Part (piece.Aimed aim.Calling far)) = i ≡ instr.Rcall far
+Back i other = ⊥
+
+told_back : (i : Instr) (st : Standing) → IsTold i st → Back i st
+told_back i (Barred kind) h = tt
+told_back i (Part (piece.Whole (unit.Plain x))) h = h.0
+told_back i (Part (piece.Whole (unit.Store x))) h = h
+told_back i (Part (piece.Whole (unit.Skip x))) h = h
+told_back i (Part (piece.Whole (unit.KernelCall n))) h = (sym h.0, h.1)
+told_back i (Part (piece.Whole (unit.SlotCall n))) h = (sym h.0, h.1)
+told_back i NoInstruction h = h.1
+told_back i (Part (piece.Whole (unit.Load x))) h = h.1
+told_back i (Part (piece.Whole (unit.SpGroup with_sreg))) h = h.1
+told_back i (Part (piece.Whole (unit.Branch set bit t))) h = h.1
+told_back i (Part (piece.Whole (unit.Jump t))) h = h.1
+told_back i (Part (piece.Whole (unit.LocalCall t))) h = h.1
+told_back i (Part (piece.Aimed (aim.Branching true bit) far)) h = sym h.0
+told_back i (Part (piece.Aimed (aim.Branching false bit) far)) h = sym h.0
+told_back i other h = sym h.0
+
+pub back : (i : Instr) → Back i (standing_of i)
+back i = told_back i (standing_of i) (tells i)

@@ -8,10 +8,8 @@
 mod forms;
 mod guards;
 mod laws;
-mod opening;
 mod spelling;
 
 pub use guards::{address_of, guard_of};
 pub use laws::{one_spelling, one_wording, templates_spell};
-pub use opening::Opening;
 pub use spelling::{Template, spell_unit};

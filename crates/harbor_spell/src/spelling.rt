@@ -1,6 +1,6 @@
 //! The words of templates.
 
-ghost use Rattle.std.specs.Prelude.{◌≡◌, ◌+◌, ◌<◌, ◌≤◌, Bool, List, Some, [], ◌∷◌, ◌++◌, length, slice_get};
+ghost use Rattle.std.specs.Prelude.{ℕ, Bool, List, Some, [], ◌≡◌, ◌<◌, ◌≤◌, ◌+◌, ◌++◌, ◌∷◌, length, slice_get};
 ghost use Rattle.std.specs.List.{AllByRecursion};
 ghost use Rattle.avr_isa.specs.Operands.{IsBranchOffset, IsEncodable};
 ghost use Rattle.avr_isa.specs.declared.instruction.Instr.{Instr};
@@ -101,26 +101,25 @@ fn branch(set: bool, bit: u8, offset: i16) -> Instr
     }
 }
 
-/// Writes the words of instructions.
+/// Writes the words of instructions, one behind the other.
 fn spell(instructions: &[Instr], out: &mut Template)
-    requires encodable { AllByRecursion IsEncodable instructions.now }
     requires room { words_in instructions.now ≤ 5 }
+    requires encodable { AllByRecursion IsEncodable instructions.now }
     ensures { AreWordsOf instructions.now out.new.items }
 {
     out.clear();
     for instruction in instructions {
-        add(out, *instruction);
+        put(instruction, out);
     }
 }
 
-/// Adds the words of an instruction.
-fn add(out: &mut Template, instruction: Instr)
-    requires encodable { IsEncodable instruction }
-    requires room { length out.old.items + instruction_length instruction ≤ 5 }
-    ensures words { (is : List Instr) → AreWordsOf is out.old.items → AreWordsOf (is ++ instruction ∷ []) out.new.items }
-    ensures count { length out.new.items ≡ length out.old.items + instruction_length instruction }
+/// Puts the words of an instruction behind the others.
+fn put(instruction: &Instr, out: &mut Template)
+    requires encodable { IsEncodable instruction.now }
+    requires room { length out.old.items + instruction_length instruction.now ≤ 5 }
+    ensures { (words : List ℕ) × (out.new.items ≡ out.old.items ++ words) × AreWordsOf (instruction.now ∷ []) words }
 {
-    let (first, second) = encode(&instruction);
+    let (first, second) = encode(instruction);
     out.push(first);
     if let Some(second) = second {
         out.push(second);

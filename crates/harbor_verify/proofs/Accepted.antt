@@ -1,51 +1,117 @@
--- What accepted words are, and reading their units.
-use Rattle.std.proofs.Common.{◌≡◌, ◌∙◌, ℕ, ◌+◌, ◌≤◌, Bool, List, [], ◌∷◌, ◌++◌, length, drop, Some, None, sym, ap, arith, append-nil, append_assoc}
-use Rattle.std.specs.List.{cons_option}
-use Rattle.std.proofs.lemmas.List.{drop_all}
-use Rattle.unit_code.specs.declared.unit.Unit.{Unit}
+-- How words that units lay are read.
+use Rattle.std.proofs.Common.{◌≡◌, ◌≢◌, ◌∙◌, ℕ, ◌+◌, ◌≤◌, ◌<◌, Bool, false, List, [], ◌∷◌, length, Ok, None, refl, sym, ap, ap₂, subst, arith}
+use Rattle.std.specs.List.{AllByRecursion}
+use Rattle.std.proofs.lemmas.List.Sums.{sum_by-cons}
+use Rattle.avr_isa.specs.declared.instruction.Instr.{Instr}
+use Rattle.unit_code.specs.Beside.{StandBy, Stands, forms_words, starts_from, words_in}
+use Rattle.unit_code.specs.Ends.{goes_on, long_length}
+use Rattle.unit_code.specs.Lengths.{spelled_length}
+use Rattle.unit_code.specs.Proper.{IsOfKind, LeadsBelow}
+use Rattle.unit_code.specs.Spelling.{Lays, Spells, forms_from, start_of}
+use Rattle.unit_code.specs.Templates.{template}
 use Rattle.unit_code.specs.declared.form.Form.{Form}
-use Rattle.unit_code.specs.Beside.{starts_from}
-use Rattle.unit_code.specs.Spelling.{Spells, start_of}
-use Rattle.harbor_spell.proofs.OneSpelling.{Words16, one_laying, places_are}
-use Rattle.harbor_verify.specs.Aims.{unit_of, units_from}
-use Rattle.harbor_verify.specs.Parts.{ArePartsOf, IsAccepted}
+use Rattle.unit_code.specs.declared.unit.Shape.{Shape}
+use Rattle.unit_code.specs.declared.unit.Shape.TheVariants.{Long}
+use Rattle.unit_code.specs.declared.unit.Unit.{Unit}
+use Rattle.harbor_spell.proofs.Added.{words_more}
+use Rattle.harbor_spell.proofs.Lengths.{form_length}
+use Rattle.harbor_spell.proofs.OneSpelling.{Words16, places_are, starts_count}
+use Rattle.harbor_spell.proofs.Placed.{spelled-least}
+use Rattle.harbor_spell.proofs.Starts.{form_words-some, instruction_length-some}
+use Rattle.harbor_verify.specs.Parts.{ArePartsOf, HaveUnits, IsAccepted}
+use Rattle.harbor_verify.specs.Resolved.{resolve_from, resolved, units_or_none}
 use Rattle.harbor_verify.specs.Verdict.{units_in}
-use Rattle.harbor_verify.specs.Walks.{forms_in, starts_in}
-use Rattle.harbor_verify.proofs.NoRefusal.{are_parted, no_refusal_spells}
-use Rattle.harbor_verify.proofs.NthForm.{same_length}
-use Rattle.harbor_verify.proofs.Straight.{laid_forms, laid_parts, spells_no_refusal}
+use Rattle.harbor_verify.specs.Walks.{allowed_forms, forms_in, gap, starts_in, unfit}
+use Rattle.harbor_verify.proofs.Decoded.{all_read, words_count}
+use Rattle.harbor_verify.proofs.Fits.{templates_fit}
+use Rattle.harbor_verify.proofs.NthForm.{first_words}
+use Rattle.harbor_verify.proofs.Partings.{same_forms, stand_forms, stops_nowhere}
+use Rattle.harbor_verify.proofs.Resolving.{forms_resolve}
 
-pub accepted_parts : (words starts : List ℕ) → length words ≤ 65535 → Words16 words → IsAccepted words starts → ArePartsOf words starts
-accepted_parts words starts few small h =
+-- templates side by side have their words
+pub stand_count : (sealed : Bool) (fs : List Form) (is rest : List Instr) → StandBy sealed fs is rest → words_in is ≡ forms_words fs + words_in rest
+stand_count sealed [] is rest h = let same = ap words_in h in omega (arith, same)
+stand_count sealed (f ∷ fs) is rest h =
+    let all = ap words_in h.1.words ∙ words_more (template f) h.0 in
+    omega (arith, all, stand_count sealed fs h.0 rest h.2)
+
+pub words_left : (is : List Instr) → is ≢ [] → 0 < words_in is
+words_left [] h = absurd (h refl)
+words_left (i ∷ is) h = omega (arith, instruction_length-some i)
+
+-- no template stands where no instruction is left
+pub nothing_stands : (sealed : Bool) (f : Form) (behind : List Instr) → Stands sealed f [] behind → ⊥
+nothing_stands sealed f behind h =
+    let all = ap words_in h.words ∙ words_more (template f) behind in
+    omega (arith, all, form_words-some f h.kind)
+
+module _ (sealed : Bool) (words : List ℕ) (us : List Unit) (starts : List ℕ) (small : Words16 words) (laid : Lays words sealed us starts) where
+  abbrev is : List Instr
+  is = laid.1.instructions
+
+  abbrev fs : List Form
+  fs = forms_from starts 0 us laid.0
+
+  pub laid_fit : unfit sealed words ≡ None
+  laid_fit = templates_fit sealed fs is words laid.1.spelled laid.1.templates
+
+  laid_allowed : allowed_forms sealed words ≡ fs
+  laid_allowed =
+      let P : List Instr → Type 0 = λ l. StandBy sealed fs l [] in
+      stand_forms sealed fs words [] small (subst P (sym (all_read is words laid.1.spelled)) laid.1.templates) (nothing_stands sealed)
+
+  pub laid_stand : gap sealed words ≡ None
+  unfolding gap
+  laid_stand =
+      let read = ap forms_words laid_allowed in
+      stops_nowhere (forms_words (allowed_forms sealed words)) (length words) (omega (arith, read, words_count is words laid.1.spelled, stand_count sealed fs is [] laid.1.templates))
+
+  laid_forms : forms_in words ≡ fs
+  laid_forms = sym (same_forms sealed words small laid_stand) ∙ laid_allowed
+
+  pub laid_starts : starts_in words ≡ starts
+  unfolding starts_in
+  laid_starts = ap (starts_from 0) laid_forms ∙ sym (places_are words sealed laid.0 us starts laid.1)
+
+  pub laid_parts : length words ≤ 65535 → ArePartsOf words starts
+  laid_parts few = record { sealed = sealed; small = small; few = few; fit = laid_fit; stand = laid_stand; starts_are = sym laid_starts }
+
+  pub laid_units : length words ≤ 65535 → goes_on us ≡ false → resolved words ≡ Ok us
+  unfolding resolved
+  laid_units few ends =
+      let count = starts_count words sealed laid.0 us starts laid.1 in
+      let P : ℕ → Type 0 = λ n. AllByRecursion (LeadsBelow n) us in
+      ap₂ (λ (l : List ℕ) (gs : List Form). resolve_from l 0 gs) laid_starts laid_forms
+      ∙ forms_resolve starts (first_words words starts (laid_parts few)) 0 us laid.0 laid.1.shaped (omega (arith, count)) (subst P (sym count) laid.1.targets) laid.1.skips ends
+
+-- Accepted words fit a bank of flash.
+short_templates : (starts : List ℕ) (i : ℕ) (us : List Unit) (ss : List Shape) → AllByRecursion IsOfKind us → forms_words (forms_from starts i us ss) ≤ long_length us
+short_templates starts i [] ss kinds = omega arith
+short_templates starts i (u ∷ us) [] kinds = omega arith
+short_templates starts i (u ∷ us) (s ∷ ss) kinds =
+    omega (arith, sum_by-cons (λ v. spelled_length v Long) u us, form_length starts i (start_of starts i) u s kinds.0, spelled-least u s, short_templates starts (i + 1) us ss kinds.1)
+
+pub few_accepted : (words starts : List ℕ) → IsAccepted words starts → length words ≤ 65535
+few_accepted words starts h =
     let laid = h.spells.lays in
-    let both = laid_parts h.sealed words h.units starts small laid in
-    let parts = are_parted h.sealed words small both.0 both.1 in
-    record {
-      sealed = h.sealed;
-      few = few;
-      small = small;
-      read = both.0;
-      stand = both.1;
-      places = places_are words h.sealed laid.0 h.units starts laid.1 ∙ ap (starts_from 0) (sym (laid_forms h.sealed words h.units starts small laid parts)) ∙ sym parts.starts;
-    }
+    let fs = forms_from starts 0 h.units laid.0 in
+    let fits = h.spells.proper.fits in
+    omega (
+      arith,
+      fits,
+      words_count laid.1.instructions words laid.1.spelled,
+      stand_count h.sealed fs laid.1.instructions [] laid.1.templates,
+      short_templates starts 0 h.units laid.0 h.spells.proper.kinds,
+    )
 
-pub units_are : (sealed : Bool) (words marks starts : List ℕ) (us : List Unit) → length words ≤ 65535 → Words16 words → Spells words marks sealed us starts → units_in words ≡ us
-units_are sealed words marks starts us few small h =
-    let spelled = no_refusal_spells sealed words marks small (spells_no_refusal sealed words marks us starts few small h) in
-    (one_laying words sealed (units_in words) us (starts_in words) starts small spelled.lays h.lays).0
+module _ (words starts : List ℕ) (few : length words ≤ 65535) (small : Words16 words) (h : IsAccepted words starts) where
+  pub accepted_parts : ArePartsOf words starts
+  accepted_parts = laid_parts h.sealed words h.units starts small h.spells.lays few
 
-pub unit_told : (starts : List ℕ) (n : ℕ) (f : Form) (fs rest : List Form) (u : Unit) (told whole : List Unit) → drop n fs ≡ f ∷ rest → unit_of starts (start_of starts n) f ≡ Some u → told ++ units_from starts n (drop n fs) ≡ whole → (told ++ u ∷ []) ++ units_from starts (n + 1) rest ≡ whole
-unit_told starts n f fs rest u told whole is some so =
-    append_assoc told (u ∷ []) (units_from starts (n + 1) rest)
-    ∙ ap (λ l. told ++ l) (sym (ap (units_from starts n) is ∙ ap (λ o. cons_option o (units_from starts (n + 1) rest)) some)) ∙ so
+  pub accepted_units : HaveUnits words
+  accepted_units = record { units = h.units; are = laid_units h.sealed words h.units starts small h.spells.lays few h.spells.proper.ends }
 
-pub unit_passed : (starts : List ℕ) (n : ℕ) (f : Form) (fs rest : List Form) (told whole : List Unit) → drop n fs ≡ f ∷ rest → unit_of starts (start_of starts n) f ≡ None → told ++ units_from starts n (drop n fs) ≡ whole → told ++ units_from starts (n + 1) rest ≡ whole
-unit_passed starts n f fs rest told whole is none so =
-    ap (λ l. told ++ l) (sym (ap (units_from starts n) is ∙ ap (λ o. cons_option o (units_from starts (n + 1) rest)) none)) ∙ so
-
-pub units_end : (words starts : List ℕ) (n : ℕ) (told : List Unit) → ArePartsOf words starts → length starts ≤ n → told ++ units_from starts n (drop n (forms_in words)) ≡ units_from starts 0 (forms_in words) → told ≡ units_in words
+-- the units of accepted words, whatever they are said to spell
+pub units_are : (words marks starts : List ℕ) (sealed : Bool) (us : List Unit) → length words ≤ 65535 → Words16 words → Spells words marks sealed us starts → units_in words ≡ us
 unfolding units_in
-units_end words starts n told parts past so =
-    sym (append-nil told)
-    ∙ ap (λ l. told ++ l) (sym (ap (units_from starts n) (drop_all n (forms_in words) (omega (arith, past, same_length words starts parts)))))
-    ∙ so ∙ ap (λ l. units_from l 0 (forms_in words)) parts.places
+units_are words marks starts sealed us few small h = ap units_or_none (laid_units sealed words us starts small h.lays few h.proper.ends)

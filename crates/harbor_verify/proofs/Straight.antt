@@ -1,210 +1,121 @@
--- Words that spell units have no refusal.
-use Rattle.std.proofs.Common.{◌≡◌, ◌∙◌, ℕ, ◌+◌, ◌≤◌, ◌<◌, ◌==◌, cond, ltb, min, not, Bool, true, false, List, [], ◌∷◌, length, get_or, Option, Some, None, is_some, refl, sym, ap, ap₂, subst, arith}
-use Rattle.std.specs.Prelude.{option_map, IfErr, IfOk, MatchResult, Result, Ok, Err}
+-- Nothing stands against words that spell units.
+use Rattle.std.proofs.Common.{◌≡◌, ◌∙◌, ℕ, zero, suc, ◌≤◌, ltb, min, Bool, false, List, [], ◌∷◌, length, get_or, Option, Some, None, Ok, refl, sym, ap, subst, arith}
+use Rattle.std.specs.Prelude.{option_map}
 use Rattle.std.specs.List.{AllByRecursion, Contains}
-use Rattle.std.proofs.lemmas.Option.{none-some}
-use Rattle.std.proofs.lemmas.Bool.{eq-eqb, le-ltb}
+use Rattle.std.proofs.lemmas.Bool.{le-ltb}
 use Rattle.std.proofs.lemmas.List.{get_or_default}
-use Rattle.avr_isa.specs.declared.instruction.Instr.{Instr}
+use Rattle.std.proofs.lemmas.Option.{none-some}
 use Rattle.mote_layout.specs.Memory.{bank_words}
+use Rattle.unit_code.specs.Ends.{goes_on, long_length}
+use Rattle.unit_code.specs.Refusals.{is_empty, least_stray}
+use Rattle.unit_code.specs.Spelling.{Spells}
+use Rattle.unit_code.specs.Targets.{AreFirstWords}
 use Rattle.unit_code.specs.declared.unit.Unit.{Unit}
-use Rattle.unit_code.specs.declared.unit.Unit.TheVariants as unit
-use Rattle.unit_code.specs.declared.unit.Shape.{Shape}
-use Rattle.unit_code.specs.declared.unit.Shape.TheVariants.{Long, Short}
-use Rattle.unit_code.specs.Ends.{goes_on, leaves, long_length}
-use Rattle.unit_code.specs.Proper.{CanBeSkipped, IsProper, LeadsBelow, SkipsAreSound, is_group_unit}
-use Rattle.unit_code.specs.Refusals.{is_empty, least_stray, lesser}
-use Rattle.unit_code.specs.Targets.{AreFirstWords, number_of, number_reached, reached}
 use Rattle.unit_code.proofs.Numbers.{number_of-at}
-use Rattle.unit_code.specs.declared.form.Form.{Form}
-use Rattle.unit_code.specs.Beside.{AreWordsOf}
-use Rattle.unit_code.specs.Beside.{StandBy, starts_from}
-use Rattle.unit_code.specs.Spelling.{Lays, Spells, form_of, forms_from, start_of}
-use Rattle.unit_code.specs.Spelled.{offset_to}
-use Rattle.harbor_spell.proofs.OneSpelling.{Words16, length-forms, one_laying, places_are, starts_count, words_encodable}
-use Rattle.unit_code.proofs.Offsets.{reached-offset_to}
-use Rattle.harbor_spell.proofs.Unique.{no_template, one_parting}
+use Rattle.unit_code.proofs.Strays.{least_stray-some}
+use Rattle.harbor_spell.proofs.OneSpelling.{Words16, starts_count}
+use Rattle.harbor_verify.specs.Resolved.{astray_at, resolved, units_or_none}
+use Rattle.harbor_verify.specs.Verdict.{or_else, refusal, refusal_of_targets, refusal_of_templates, refusal_of_units, refusal_of_words, stray_mark, told_where, units_in}
+use Rattle.harbor_verify.specs.Walks.{forms_in, pieces_up_to, starts_in}
 use Rattle.harbor_verify.specs.declared.error.VerifyError.{VerifyError}
-use Rattle.harbor_verify.specs.declared.error.VerifyError.TheVariants.{FallsOff, Empty, TooLong, Entry}
-use Rattle.harbor_verify.specs.Aims.{astray, astray_from, before, can_pass, is_at, is_group_form, is_last, leads, unless}
-use Rattle.harbor_verify.specs.Parts.{ArePartsOf, IsAccepted}
-use Rattle.harbor_verify.specs.Verdict.{or_else, refusal, refusal_of_units, stray_mark, units_in}
-use Rattle.harbor_verify.specs.Walks.{unfit, forms_in, starts_in, gap}
-use Rattle.harbor_verify.specs.Words.{instructions}
-use Rattle.harbor_verify.proofs.Chain.{by_targets, past_templates}
-use Rattle.harbor_verify.proofs.Converse.{free_words, templates_free, templates_walked, words_read}
+use Rattle.harbor_verify.specs.declared.error.VerifyError.TheVariants.{Word, Guard, Target, FallsOff, Empty, TooLong, Entry}
+use Rattle.harbor_verify.proofs.Accepted.{laid_fit, laid_parts, laid_stand, laid_starts, laid_units}
+use Rattle.harbor_verify.proofs.NoRefusal.{no_refusal_spells}
 use Rattle.harbor_verify.proofs.NthForm.{first_words}
-use Rattle.harbor_verify.proofs.NoRefusal.{AreParted, are_parted, lays, no_refusal_spells, units_resolve}
 
-module _ (starts : List ℕ) (first : AreFirstWords starts) where
-  there : (place t : ℕ) → t < length starts → leads starts place (offset_to place (start_of starts t)) ≡ true
-  there place t below =
-      ap (λ o. is_some (number_reached starts o)) (reached-offset_to place (start_of starts t)) ∙ ap is_some (number_of-at starts (start_of starts t) t first below refl)
+both_none : (a b : Option VerifyError) → a ≡ None → b ≡ None → or_else a b ≡ None
+both_none a b e f = ap (λ o. or_else o b) e ∙ f
 
-  good : (b : Bool) (at : ℕ) → b ≡ true → unless b at ≡ None
-  good b at e = ap (λ x. unless x at) e
+untold : (b : Bool) (x : VerifyError) → b ≡ false → told_where b x ≡ None
+untold b x e = ap (λ t. told_where t x) e
 
-  group_same : (i at : ℕ) (u : Unit) (s : Shape) → is_group_form (form_of starts i at u s) ≡ is_group_unit u
-  group_same i at (unit.SpGroup b) s = refl
-  group_same i at (unit.Skip x) Long = refl
-  group_same i at (unit.Skip x) Short = refl
-  group_same i at (unit.Branch set bit t) Long = refl
-  group_same i at (unit.Branch set bit t) Short = refl
-  group_same i at _ s = refl
+no_option : (o : Option ℕ) → ((n : ℕ) → o ≡ Some n → ⊥) → o ≡ None
+no_option None h = refl
+no_option (Some n) h = absurd (h n refl)
 
-  passes : (n : ℕ) (us : List Unit) (ss : List Shape) → length ss ≡ length us → CanBeSkipped us → can_pass (forms_from starts n us ss) ≡ true
-  passes n [] ss h can = absurd can
-  passes n (u ∷ []) ss h can = absurd can
-  passes n (u ∷ v ∷ us) [] h can = absurd (omega (arith, h))
-  passes n (u ∷ v ∷ us) (s ∷ []) h can = absurd (omega (arith, h))
-  passes n (u ∷ v ∷ us) (s ∷ t ∷ ss) h can = ap not (group_same n (start_of starts n) u s ∙ can)
+entered_at : (marks starts : List ℕ) (mark : ℕ) → AllByRecursion (λ m. Contains starts m) marks → Contains marks mark → Contains starts mark
+entered_at [] starts mark h (k, within, is) = absurd (omega (arith, within))
+entered_at (m ∷ marks) starts mark h (zero, within, is) = let P : ℕ → Type 0 = λ x. Contains starts x in subst P is h.0
+entered_at (m ∷ marks) starts mark h (suc k, within, is) = entered_at marks starts mark h.1 (k, omega (arith, within), is)
 
-  not_last : (n : ℕ) (u : Unit) (us : List Unit) (ss : List Shape) → length ss ≡ length us → leaves u ≡ false → goes_on (u ∷ us) ≡ false → is_last (forms_from starts n us ss) ≡ false
-  not_last n u [] ss h stays ends = let t : not (leaves u) ≡ true = ap not stays in cc
-  not_last n u (v ∷ us) [] h stays ends = absurd (omega (arith, h))
-  not_last n u (v ∷ us) (s ∷ ss) h stays ends = refl
+none_strays : (starts marks : List ℕ) → AreFirstWords starts → AllByRecursion (λ m. Contains starts m) marks → least_stray starts marks ≡ None
+none_strays starts marks first h =
+    no_option (least_stray starts marks) (λ w e.
+    let stray = least_stray-some starts marks w e in
+    let there : Contains starts w = entered_at marks starts w h stray.0 in
+    let at : get_or starts there.0 0 ≡ w = sym (get_or_default starts there.0 w 0 there.1) ∙ there.2 in
+    none-some there.0 (sym stray.1 ∙ number_of-at starts w there.0 first there.1 at))
 
-  long_skip : (b : Bool) (at place word : ℕ) → b ≡ true → cond b (unless (is_at word (reached place (offset_to place word))) place) (Some at) ≡ None
-  long_skip b at place word e =
-      ap (λ x. cond x (unless (is_at word (reached place (offset_to place word))) place) (Some at)) e
-      ∙ ap (λ o. unless (is_at word o) place) (reached-offset_to place word)
-      ∙ good (word == word) place (eq-eqb word word refl)
+not_empty : (words : List ℕ) (us : List Unit) → (words ≡ [] → ⊥) → is_empty words ≡ false
+not_empty [] us h = absurd (h refl)
+not_empty (w ∷ ws) us h = refl
 
-  one_straight : (n at : ℕ) (u : Unit) (us : List Unit) (s : Shape) (ss : List Shape) → length ss ≡ length us → LeadsBelow (length starts) u → SkipsAreSound (u ∷ us) → goes_on (u ∷ us) ≡ false → astray starts n at (form_of starts n at u s) (forms_from starts (n + 1) us ss) ≡ None
-  one_straight n at (unit.Skip x) us Short ss h below skips ends = good (can_pass (forms_from starts (n + 1) us ss)) at (passes (n + 1) us ss h skips.0)
-  one_straight n at (unit.Skip x) us Long ss h below skips ends = long_skip (can_pass (forms_from starts (n + 1) us ss)) at (at + 2) (start_of starts (n + 2)) (passes (n + 1) us ss h skips.0)
-  one_straight n at (unit.Branch set bit t) us Short ss h below skips ends = good _ at (there at t below)
-  one_straight n at (unit.Branch set bit t) us Long ss h below skips ends =
-      ap (λ b. cond b (Some at) (unless (leads starts (at + 1) (offset_to (at + 1) (start_of starts t))) (at + 1))) (not_last (n + 1) (unit.Branch set bit t) us ss h refl ends)
-      ∙ good _ (at + 1) (there (at + 1) t below)
-  one_straight n at (unit.Jump t) us s ss h below skips ends = good _ at (there at t below)
-  one_straight n at (unit.LocalCall t) us s ss h below skips ends = good _ (at + 2) (there (at + 2) t below)
-  one_straight n at _ us s ss h below skips ends = refl
+nothing_starts : length (starts_in []) ≡ 0
+unfolding starts_in forms_in pieces_up_to
+nothing_starts = refl
 
-  ends_behind : (u : Unit) (us : List Unit) → goes_on (u ∷ us) ≡ false → goes_on us ≡ false
-  ends_behind u [] h = refl
-  ends_behind u (v ∷ us) h = h
+module _ (sealed : Bool) (words marks : List ℕ) (few : length words ≤ 65535) (small : Words16 words) (us : List Unit) (starts : List ℕ) (h : Spells words marks sealed us starts) where
+  whole : resolved words ≡ Ok us
+  whole = laid_units sealed words us starts small h.lays few h.proper.ends
 
-  pub straight : (n : ℕ) (us : List Unit) (ss : List Shape) → length ss ≡ length us → AllByRecursion (LeadsBelow (length starts)) us → SkipsAreSound us → goes_on us ≡ false → astray_from starts n (forms_from starts n us ss) ≡ None
-  straight n [] ss h below skips ends = refl
-  straight n (u ∷ us) [] h below skips ends = absurd (omega (arith, h))
-  straight n (u ∷ us) (s ∷ ss) h below skips ends =
-      let same : length ss ≡ length us = omega (arith, h) in
-      ap (λ o. before o (astray_from starts (n + 1) (forms_from starts (n + 1) us ss))) (one_straight n (start_of starts n) u us s ss same below.0 skips ends)
-      ∙ straight (n + 1) us ss same below.1 skips.1 (ends_behind u us ends)
+  same_starts : starts_in words ≡ starts
+  same_starts = laid_starts sealed words us starts small h.lays
 
-module _ (sealed : Bool) where
-  -- words that are laid out of templates have them at each place
-  pub laid_parts : (words : List ℕ) (us : List Unit) (starts : List ℕ) → Words16 words → Lays words sealed us starts → (unfit sealed words ≡ None) × (gap sealed words ≡ None)
-  unfolding unfit gap
-  laid_parts words us starts small h =
-      let a = h.1 in
-      let fs = forms_from starts 0 us h.0 in
-      let read : instructions words ≡ a.instructions = words_read a.instructions words a.spelled in
-      let P : List Instr → Type 0 = λ l. AreWordsOf l words in
-      let Q : List Instr → Type 0 = λ l. StandBy sealed fs l [] in
-      let spelled = subst P (sym read) a.spelled in (
-        free_words sealed words 0 0 a.instructions a.spelled (templates_free sealed fs a.instructions a.templates),
-        templates_walked sealed words 0 0 fs (spelled, words_encodable (instructions words) words small spelled) (subst Q (sym read) a.templates),
-      )
+  same_units : units_in words ≡ us
+  unfolding units_in
+  same_units = ap units_or_none whole
 
-  pub laid_forms : (words : List ℕ) (us : List Unit) (starts : List ℕ) → Words16 words → (h : Lays words sealed us starts) → AreParted sealed words → forms_in words ≡ forms_from starts 0 us h.0
-  laid_forms words us starts small h parts =
-      let a = h.1 in
-      let fs = forms_from starts 0 us h.0 in
-      let read : instructions words ≡ a.instructions = words_read a.instructions words a.spelled in
-      let Q : List Instr → Type 0 = λ l. StandBy sealed fs l [] in
-      one_parting sealed (forms_in words) fs (instructions words) (words_encodable (instructions words) words small parts.spelled) parts.stand (subst Q (sym read) a.templates)
+  no_words_no_units : words ≡ [] → ⊥
+  no_words_no_units e =
+      let none : length starts ≡ 0 = ap length (sym same_starts) ∙ ap (λ l. length (starts_in l)) e ∙ nothing_starts in
+      omega (arith, none, h.proper.some, starts_count words sealed h.lays.0 us starts h.lays.1)
 
-  no_instructions : (is : List Instr) → AreWordsOf is [] → is ≡ []
-  no_instructions [] h = refl
-  no_instructions (i ∷ is) h = absurd h
-
-  no_forms : (fs : List Form) → StandBy sealed fs [] [] → length fs ≡ 0
-  no_forms [] h = refl
-  no_forms (f ∷ fs) h = absurd (no_template sealed f h.0 h.1)
-
-  not_empty : (words : List ℕ) (us : List Unit) (starts : List ℕ) → Lays words sealed us starts → 0 < length us → is_empty words ≡ false
-  not_empty (w ∷ ws) us starts h some = refl
-  not_empty [] us starts h some =
-      let none = no_instructions h.1.instructions h.1.spelled in
-      let P : List Instr → Type 0 = λ l. StandBy sealed (forms_from starts 0 us h.0) l [] in
-      let count = no_forms (forms_from starts 0 us h.0) (subst P none h.1.templates) in
-      absurd (omega (arith, some, count, length-forms starts 0 us h.0 h.1.shaped))
-
-  entered_none : (starts marks : List ℕ) → AreFirstWords starts → AllByRecursion (λ mark. Contains starts mark) marks → least_stray starts marks ≡ None
-  entered_none starts [] first h = refl
-  entered_none starts (m ∷ ms) first h =
-      let at : get_or starts h.0.0 0 ≡ m = get_or_default starts h.0.0 0 m h.0.1 ∙ h.0.2 in
-      let some : is_some (number_of starts m) ≡ true = ap is_some (number_of-at starts m h.0.0 first h.0.1 at) in
-      ap (λ b. cond b (least_stray starts ms) (lesser (least_stray starts ms) m)) some ∙ entered_none starts ms first h.1
-
-  proper_units : (words : List ℕ) (us : List Unit) → IsProper us sealed → is_empty words ≡ false → refusal_of_units words us ≡ None
+  proper_told : refusal_of_units words us ≡ None
   unfolding refusal_of_units
-  proper_units words us proper some =
-      ap (λ b. cond b (Some FallsOff) (cond (is_empty words) (Some Empty) (cond (ltb bank_words (long_length us)) (Some (TooLong (min (long_length us) 65535))) None))) proper.ends
-      ∙ ap (λ b. cond b (Some Empty) (cond (ltb bank_words (long_length us)) (Some (TooLong (min (long_length us) 65535))) None)) some
-      ∙ ap (λ b. cond b (Some (TooLong (min (long_length us) 65535))) None) (le-ltb bank_words (long_length us) proper.fits)
+  proper_told =
+      both_none (told_where (goes_on us) FallsOff) _ (untold (goes_on us) FallsOff h.proper.ends)
+      (both_none (told_where (is_empty words) Empty) _ (untold (is_empty words) Empty (not_empty words us no_words_no_units))
+      (untold (ltb bank_words (long_length us)) (TooLong (min (long_length us) 65535)) (le-ltb bank_words (long_length us) h.proper.fits)))
 
-  pub spells_no_refusal : (words marks : List ℕ) (us : List Unit) (starts : List ℕ) → length words ≤ 65535 → Words16 words → Spells words marks sealed us starts → refusal words marks sealed ≡ None
+  marks_told : stray_mark (starts_in words) marks ≡ None
   unfolding stray_mark
-  spells_no_refusal words marks us starts few small h =
-      let both = laid_parts words us starts small h.lays in
-      let parts = are_parted sealed words small both.0 both.1 in
-      let shapes = h.lays.0 in
-      let a = h.lays.1 in
-      let forms = laid_forms words us starts small h.lays parts in
-      let same_starts : starts_in words ≡ starts = parts.starts ∙ ap (starts_from 0) forms ∙ sym (places_are words sealed shapes us starts a) in
-      let whole : ArePartsOf words starts = record { sealed = sealed; few = few; small = small; read = both.0; stand = both.1; places = sym same_starts } in
-      let first = first_words words starts whole in
-      let count = starts_count words sealed shapes us starts a in
-      let P : ℕ → Type 0 = λ n. AllByRecursion (LeadsBelow n) us in
-      let none : astray_from starts 0 (forms_from starts 0 us shapes) ≡ None = straight starts first 0 us shapes a.shaped (subst P (sym count) a.targets) a.skips h.proper.ends in
-      let resolved : astray_from (starts_in words) 0 (forms_in words) ≡ None = ap₂ (λ (l : List ℕ) (fs : List Form). astray_from l 0 fs) same_starts forms ∙ none in
-      let laid = lays sealed words parts (units_resolve sealed words parts resolved) in
-      let same = one_laying words sealed us (units_in words) starts (starts_in words) small h.lays laid in
-      let units = ap (refusal_of_units words) (sym same.0) ∙ proper_units words us h.proper (not_empty words us starts h.lays h.proper.some) in
-      let marked = ap (λ l. option_map (λ mark. Entry mark) (least_stray l marks)) same_starts ∙ ap (option_map (λ mark. Entry mark)) (entered_none starts marks first h.entered) in
-      past_templates sealed words marks both.0 both.1 ∙ by_targets words marks None resolved ∙ ap₂ (λ (x y : Option VerifyError). or_else x y) units marked
+  marks_told =
+      ap (λ l. option_map (λ mark. Entry mark) (least_stray l marks)) same_starts
+      ∙ ap (option_map (λ mark. Entry mark)) (none_strays starts marks (first_words words starts (laid_parts sealed words us starts small h.lays few)) h.entered)
 
-  pub refused_spells_none : (words marks : List ℕ) (e : VerifyError) → length words ≤ 65535 → Words16 words → refusal words marks sealed ≡ Some e → (us : List Unit) (starts : List ℕ) → Spells words marks sealed us starts → ⊥
-  refused_spells_none words marks e few small is us starts h = none-some e (sym (spells_no_refusal words marks us starts few small h) ∙ is)
+  pub nothing_told : refusal words marks sealed ≡ None
+  unfolding refusal refusal_of_words refusal_of_templates refusal_of_targets
+  nothing_told =
+      both_none (refusal_of_words sealed words) _ (ap (option_map (λ place. Word place)) (laid_fit sealed words us starts small h.lays))
+      (both_none (refusal_of_templates sealed words) _ (ap (option_map (λ place. Guard place)) (laid_stand sealed words us starts small h.lays))
+      (both_none (refusal_of_targets words) _ (ap (λ r. option_map (λ place. Target place) (astray_at r)) whole)
+      (both_none (refusal_of_units words (units_in words)) _ (ap (refusal_of_units words) same_units ∙ proper_told) marks_told)))
 
-  pub one_verdict : (words marks told : List ℕ) → Words16 words → Spells words marks sealed (units_in words) told → (us : List Unit) (starts : List ℕ) → Spells words marks sealed us starts → (length told ≡ length us) × (told ≡ starts)
-  one_verdict words marks told small h us starts k =
-      let same = one_laying words sealed (units_in words) us told starts small h.lays k.lays in
-      (starts_count words sealed h.lays.0 (units_in words) told h.lays.1 ∙ ap length same.0, same.1)
+-- What is told of words that spell units, as functions of them.
+pub judged : (sealed : Bool) (words marks : List ℕ) → length words ≤ 65535 → Words16 words → (us : List Unit) (starts : List ℕ) → Spells words marks sealed us starts
+    → (refusal words marks sealed ≡ None) × (units_in words ≡ us) × (starts_in words ≡ starts)
+judged sealed words marks few small us starts h =
+    (nothing_told sealed words marks few small us starts h, same_units sealed words marks few small us starts h, same_starts sealed words marks few small us starts h)
 
-  -- accepted words spell some units
-  pub units_told : (words marks told : List ℕ) (r : Result ℕ VerifyError)
-      → IfOk r (λ count. Spells words marks sealed (units_in words) told × (count ≡ length told))
-      → IfOk r (λ count. (us : List Unit) × Spells words marks sealed us told × (count ≡ length us))
-  units_told words marks told (Ok count) h =
-      let lays = h.0.lays in
-      (units_in words, h.0, h.1 ∙ starts_count words sealed lays.0 (units_in words) told lays.1)
-  units_told words marks told (Err e) h = tt
+-- What is told of words that nothing stands against, with the starts and their number.
+pub record IsTold (sealed : Bool) (words marks told : List ℕ) (number : ℕ) : Type 0 where
+  pub spells : Spells words marks sealed (units_in words) told
+  pub many : number ≡ length (units_in words)
+  pub only : (us : List Unit) (places : List ℕ) → Spells words marks sealed us places → (number ≡ length us) × (told ≡ places)
 
-  pub accepted_told : (words marks told : List ℕ) (r : Result ℕ VerifyError)
-      → IfOk r (λ count. Spells words marks sealed (units_in words) told × (count ≡ length told)) → IfOk r (λ count. IsAccepted words told)
-  accepted_told words marks told (Ok count) h = record { sealed = sealed; marks = marks; units = units_in words; spells = h.0 }
-  accepted_told words marks told (Err e) h = tt
+pub is_told : (sealed : Bool) (words marks told : List ℕ) (number : ℕ) → length words ≤ 65535 → Words16 words → refusal words marks sealed ≡ None → told ≡ starts_in words → number ≡ length told → IsTold sealed words marks told number
+is_told sealed words marks told number few small none starts counted =
+    let P : List ℕ → Type 0 = λ l. Spells words marks sealed (units_in words) l in
+    let spells = subst P (sym starts) (no_refusal_spells sealed words marks small none) in
+    let many : number ≡ length (units_in words) = counted ∙ starts_count words sealed spells.lays.0 (units_in words) told spells.lays.1 in
+    record {
+      spells = spells;
+      many = many;
+      only = λ us places h. let same = judged sealed words marks few small us places h in (many ∙ ap length same.1, starts ∙ same.2);
+    }
 
-  pub value_told : (words marks told : List ℕ) (r : Result ℕ VerifyError)
-      → IfOk r (λ count. Spells words marks sealed (units_in words) told × (count ≡ length told))
-      → IfOk r (λ count. (refusal words marks sealed ≡ None) × (told ≡ starts_in words))
-      → IfErr r (λ e. refusal words marks sealed ≡ Some e)
-      → MatchResult r (λ count. (refusal words marks sealed ≡ None) × (told ≡ starts_in words) × (count ≡ length (units_in words)))
-      (λ e. refusal words marks sealed ≡ Some e)
-  value_told words marks told (Ok count) h k err =
-      let lays = h.0.lays in
-      (k.0, k.1, h.1 ∙ starts_count words sealed lays.0 (units_in words) told lays.1)
-  value_told words marks told (Err e) h k err = err
+pub refused_spells_none : (sealed : Bool) (words marks : List ℕ) (e : VerifyError) → length words ≤ 65535 → Words16 words → refusal words marks sealed ≡ Some e → (us : List Unit) (places : List ℕ) → Spells words marks sealed us places → ⊥
+refused_spells_none sealed words marks e few small is us places h = none-some e (sym (judged sealed words marks few small us places h).0 ∙ is)
 
-  -- the words' verdict as functions of them
-  pub judged : (words marks : List ℕ) → length words ≤ 65535 → Words16 words → (us : List Unit) (starts : List ℕ) → Spells words marks sealed us starts
-      → (refusal words marks sealed ≡ None) × (units_in words ≡ us) × (starts_in words ≡ starts)
-  judged words marks few small us starts h =
-      let none = spells_no_refusal words marks us starts few small h in
-      let spelled = no_refusal_spells sealed words marks small none in
-      let same = one_laying words sealed (units_in words) us (starts_in words) starts small spelled.lays h.lays in
-      (none, same.0, same.1)
+pub few_starts : (sealed : Bool) (words marks told : List ℕ) (number : ℕ) → length words ≤ 65535 → Words16 words → IsTold sealed words marks told number → length told ≤ 65535
+few_starts sealed words marks told number few small h = (first_words words told (laid_parts sealed words (units_in words) told small h.spells.lays few)).few

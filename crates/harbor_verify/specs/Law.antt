@@ -1,34 +1,30 @@
--- Which refusal is told.
+-- The refusal that is told: the first condition in the order of their numbers, at its least word.
 use Rattle.std.specs.Prelude.{◌≡◌, ◌⊎◌, ℕ, ◌<◌, ◌≤◌, Bool, List}
+use Rattle.harbor_verify.specs.Conditions.{Holds}
 use Rattle.harbor_verify.specs.declared.error.VerifyError.{VerifyError}
 use Rattle.harbor_verify.specs.declared.error.VerifyError.TheVariants.{Word, Guard, Target, FallsOff, Empty, TooLong, Entry}
-use Rattle.harbor_verify.specs.Errors.{Holds}
 
--- the place of a condition in their order
+-- A condition by its number, from 1, and the place or the count that it names, or 0.
+abbrev pub numbered : VerifyError → ℕ × ℕ
+numbered (Word place) = (1, place)
+numbered (Guard place) = (2, place)
+numbered (Target place) = (3, place)
+numbered FallsOff = (4, 0)
+numbered Empty = (5, 0)
+numbered (TooLong count) = (6, count)
+numbered (Entry mark) = (7, mark)
+
 abbrev pub order : VerifyError → ℕ
-order (Word at) = 1
-order (Guard at) = 2
-order (Target at) = 3
-order FallsOff = 4
-order Empty = 5
-order (TooLong words) = 6
-order (Entry at) = 7
+order e = (numbered e).0
 
--- the place or count that a refusal names
 abbrev pub error_word : VerifyError → ℕ
-error_word (Word at) = at
-error_word (Guard at) = at
-error_word (Target at) = at
-error_word FallsOff = 0
-error_word Empty = 0
-error_word (TooLong words) = words
-error_word (Entry at) = at
+error_word e = (numbered e).1
 
--- One comes before the other in the order, or it is the same condition at no greater word.
+-- The other has a greater number, or the same and no lesser word.
 abbrev pub IsNoLater : VerifyError → VerifyError → Type 0
 IsNoLater e other = (order e < order other) ⊎ ((order e ≡ order other) × (error_word e ≤ error_word other))
 
--- The first condition that holds, at its least word.
+-- It holds, and is no later than any that holds.
 pub record IsFirst (words marks : List ℕ) (sealed : Bool) (e : VerifyError) : Type 0 where
   pub holds : Holds words marks sealed e
   pub first : (other : VerifyError) → Holds words marks sealed other → IsNoLater e other

@@ -1,7 +1,8 @@
-pub mod Aims
-pub mod Errors
+pub mod Conditions
+pub mod Decoding
 pub mod Law
 pub mod Parts
+pub mod Reading
+pub mod Resolved
 pub mod Verdict
 pub mod Walks
-pub mod Words

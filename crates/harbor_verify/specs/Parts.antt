@@ -1,25 +1,26 @@
--- Words that are templates side by side, and where these start.
-use Rattle.std.specs.Prelude.{◌≡◌, ℕ, ◌^◌, ◌<◌, ◌≤◌, Bool, List, length, None}
+-- What is known of words between the verifier's steps, and of words that it has accepted.
+use Rattle.std.specs.Prelude.{◌≡◌, ℕ, ◌^◌, ◌<◌, ◌≤◌, Bool, List, None, Ok, length}
 use Rattle.std.specs.List.{AllByRecursion}
-use Rattle.unit_code.specs.declared.unit.Unit.{Unit}
 use Rattle.unit_code.specs.Spelling.{Spells}
-use Rattle.harbor_verify.specs.Walks.{unfit, forms_in, starts_in, gap}
-use Rattle.harbor_verify.specs.Aims.{astray_from}
+use Rattle.unit_code.specs.declared.unit.Unit.{Unit}
+use Rattle.harbor_verify.specs.Resolved.{resolved}
+use Rattle.harbor_verify.specs.Walks.{gap, starts_in, unfit}
 
--- In an image that is sealed or not the words are templates side by side, which start so.
+-- There are few words of 16 bits, and in an image that is sealed or not they are templates side by side, with these starts.
 pub record ArePartsOf (words starts : List ℕ) : Type 0 where
   pub sealed : Bool
+  pub small : AllByRecursion (λ word. word < 2 ^ 16) words
   pub few : length words ≤ 65535
-  pub small : AllByRecursion (λ w. w < 2 ^ 16) words
-  pub read : unfit sealed words ≡ None
+  pub fit : unfit sealed words ≡ None
   pub stand : gap sealed words ≡ None
-  pub places : starts ≡ starts_in words
+  pub starts_are : starts ≡ starts_in words
 
--- No template goes astray.
-pub record AreResolved (words : List ℕ) : Type 0 where
-  pub none : astray_from (starts_in words) 0 (forms_in words) ≡ None
+-- No template leads astray: the words have units.
+pub record HaveUnits (words : List ℕ) : Type 0 where
+  pub units : List Unit
+  pub are : resolved words ≡ Ok units
 
--- Words that were accepted, with these starts: in an image that is sealed or not, entered at some marks, they spell units.
+-- The words were accepted, with these starts: in an image that is sealed or not, entered at some marks, they spell units.
 pub record IsAccepted (words starts : List ℕ) : Type 0 where
   pub sealed : Bool
   pub marks : List ℕ

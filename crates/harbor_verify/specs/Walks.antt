@@ -1,71 +1,66 @@
--- Words walked from the left, template by template.
-use Rattle.std.specs.Prelude.{ℕ, zero, suc, ◌+◌, ◌-◌, Bool, List, [], ◌∷◌, Option, Some, None, if◌then◌else◌}
+-- Words read from the left, as instructions and as templates.
+use Rattle.std.specs.Prelude.{ℕ, zero, suc, ◌==◌, Bool, List, [], ◌∷◌, drop, length, Option, Some, None, if◌then◌else◌}
 use Rattle.avr_isa.specs.declared.instruction.Instr.{Instr}
+use Rattle.unit_code.specs.Beside.{form_words, forms_words, starts_from, words_in}
 use Rattle.unit_code.specs.Lengths.{instruction_length}
 use Rattle.unit_code.specs.declared.form.Form.{Form}
-use Rattle.harbor_spell.specs.Front.{front, may_stand}
-use Rattle.unit_code.specs.Beside.{form_words}
-use Rattle.harbor_verify.specs.Words.{form_found, instructions, is_unfit}
+use Rattle.harbor_verify.specs.Decoding.{instruction_first, may_appear}
+use Rattle.harbor_verify.specs.Reading.{allowed, template_first}
 
-abbrev pub unfit_here : Bool → List Instr → ℕ → (ℕ → Option ℕ) → Option ℕ
-unfit_here sealed [] place behind = Some place
-unfit_here sealed (i ∷ is) place behind = if is_unfit sealed i then Some place else behind (instruction_length i - 1)
+abbrev pub and_behind : {A : Type 0} → Option A → (A → List A) → List A
+and_behind None behind = []
+and_behind (Some x) behind = x ∷ behind x
 
--- The first place where no permitted instruction stands, from a place on. The first argument is the number of words
--- that still belong to the instruction before.
-abbrev pub unfit_from : Bool → ℕ → ℕ → List ℕ → Option ℕ
-unfit_from sealed over place [] = None
-unfit_from sealed zero place (w ∷ ws) = unfit_here sealed (instructions (w ∷ ws)) place (λ over. unfit_from sealed over (place + 1) ws)
-unfit_from sealed (suc over) place (w ∷ ws) = unfit_from sealed over (place + 1) ws
+-- At most so many pieces of words, from the left: what comes first, and how many words it takes, is given.
+unfoldable pub pieces_up_to : {A : Type 0} → (List ℕ → Option A) → (A → ℕ) → ℕ → List ℕ → List A
+pieces_up_to first count zero words = []
+pieces_up_to first count (suc n) words = and_behind (first words) (λ x. pieces_up_to first count n (drop (count x) words))
 
--- the form that the words begin with
-abbrev pub form_first : List ℕ → Option Form
-form_first words = form_found (front (instructions words))
+-- All pieces of words, up to a place where none comes first.
+abbrev pub pieces : {A : Type 0} → (List ℕ → Option A) → (A → ℕ) → List ℕ → List A
+pieces first count words = pieces_up_to first count (length words) words
 
--- the form, where it may stand in an image that is sealed or not
-abbrev pub permitted : Bool → Option Form → Option Form
-permitted sealed None = None
-permitted sealed (Some f) = if may_stand sealed f then Some f else None
+-- the place up to which words were read, where it is not their end
+abbrev pub stop_at : ℕ → ℕ → Option ℕ
+stop_at place end = if place == end then None else Some place
 
-abbrev pub gap_here : Option Form → ℕ → (ℕ → Option ℕ) → Option ℕ
-gap_here None place behind = Some place
-gap_here (Some f) place behind = behind (form_words f - 1)
+-- the instructions of words
+unfoldable pub instructions : List ℕ → List Instr
+instructions words = pieces instruction_first instruction_length words
 
--- The first place, template by template, where none stands that may stand in the image.
-abbrev pub gap_from : Bool → ℕ → ℕ → List ℕ → Option ℕ
-gap_from sealed over place [] = None
-gap_from sealed zero place (w ∷ ws) =
-    gap_here (permitted sealed (form_first (w ∷ ws))) place (λ over. gap_from sealed over (place + 1) ws)
-gap_from sealed (suc over) place (w ∷ ws) = gap_from sealed over (place + 1) ws
+abbrev pub only_fit : Bool → Option Instr → Option Instr
+only_fit sealed None = None
+only_fit sealed (Some i) = if may_appear sealed i then Some i else None
 
-abbrev pub start_here : Option Form → ℕ → (ℕ → List ℕ) → List ℕ
-start_here None place behind = []
-start_here (Some f) place behind = place ∷ behind (form_words f - 1)
+abbrev pub fit_first : Bool → List ℕ → Option Instr
+fit_first sealed words = only_fit sealed (instruction_first words)
 
--- Where templates start, up to a place where none stands.
-abbrev pub starts_over : ℕ → ℕ → List ℕ → List ℕ
-starts_over over place [] = []
-starts_over zero place (w ∷ ws) = start_here (form_first (w ∷ ws)) place (λ over. starts_over over (place + 1) ws)
-starts_over (suc over) place (w ∷ ws) = starts_over over (place + 1) ws
+-- the instructions up to one that may not appear
+unfoldable pub fit_instructions : Bool → List ℕ → List Instr
+fit_instructions sealed words = pieces (fit_first sealed) instruction_length words
 
-abbrev pub form_here : Option Form → (ℕ → List Form) → List Form
-form_here None behind = []
-form_here (Some f) behind = f ∷ behind (form_words f - 1)
-
--- Their forms.
-abbrev pub forms_over : ℕ → List ℕ → List Form
-forms_over over [] = []
-forms_over zero (w ∷ ws) = form_here (form_first (w ∷ ws)) (λ over. forms_over over ws)
-forms_over (suc over) (w ∷ ws) = forms_over over ws
-
+-- The first place, instruction by instruction, where none stands that may appear.
 unfoldable pub unfit : Bool → List ℕ → Option ℕ
-unfit sealed words = unfit_from sealed 0 0 words
+unfit sealed words = stop_at (words_in (fit_instructions sealed words)) (length words)
 
-unfoldable pub gap : Bool → List ℕ → Option ℕ
-gap sealed words = gap_from sealed 0 0 words
+abbrev pub form_first : List ℕ → Option Form
+form_first words = template_first (instructions words)
 
-unfoldable pub starts_in : List ℕ → List ℕ
-starts_in words = starts_over 0 0 words
+abbrev pub allowed_first : Bool → List ℕ → Option Form
+allowed_first sealed words = allowed sealed (form_first words)
 
+-- the templates of words
 unfoldable pub forms_in : List ℕ → List Form
-forms_in words = forms_over 0 words
+forms_in words = pieces form_first form_words words
+
+-- the templates up to one that may not stand in the image
+unfoldable pub allowed_forms : Bool → List ℕ → List Form
+allowed_forms sealed words = pieces (allowed_first sealed) form_words words
+
+-- The first place, template by template, where none stands that may.
+unfoldable pub gap : Bool → List ℕ → Option ℕ
+gap sealed words = stop_at (forms_words (allowed_forms sealed words)) (length words)
+
+-- where the templates start
+unfoldable pub starts_in : List ℕ → List ℕ
+starts_in words = starts_from 0 (forms_in words)

@@ -1,89 +1,100 @@
-//! The instructions of words.
+//! Which instruction stands at a place, and whether it may.
 
-ghost use Rattle.std.specs.Prelude.{◌≡◌, ◌+◌, ◌≤◌, ◌∷◌, drop, [], length, slice_index, IfNone, IfSome};
-ghost use Rattle.avr_isa.specs.Decoded.{decoded};
-ghost use Rattle.avr_isa.specs.Operands.{IsEncodable};
+ghost use Rattle.std.specs.Prelude.{◌≡◌, ◌+◌, ◌≤◌, ◌∷◌, [], IfNone, IfSome, drop, length, option_map};
 ghost use Rattle.unit_code.specs.Items.{next_word};
 ghost use Rattle.unit_code.specs.Lengths.{instruction_length};
-ghost use Rattle.harbor_verify.specs.Words.{instructions, is_unfit, is_unfit_kind, is_callable, may_enter};
+ghost use Rattle.harbor_verify.specs.Decoding.{entry_called, instruction_first, may_appear, may_call, may_stand_as};
+ghost use Rattle.harbor_verify.specs.Walks.{instructions};
 
 use avr_isa::{Instr, decode};
 use mote_base::Words;
 use mote_layout::{Entry, RETURN_ENTRY, entry_of};
 use unit_code::{Standing, standing_of};
 
-/// The instruction at a place, with the place behind it; None where none is, or where the words end.
-#[tactic(auto, using(crate::proofs::ReadWords::read, avr_isa::proofs::TableLaws::decoded_length))]
-pub fn instruction_at(code: &Words<'_>, place: usize) -> Option<(Instr, usize)>
+/// An instruction in words, and where the next one begins.
+#[derive(Clone, Copy)]
+pub struct Placed {
+    pub instruction: Instr,
+    pub next: usize,
+}
+
+/// The instruction at a place; none where it is undefined or cut short, or where the words end.
+#[tactic(auto, using(crate::proofs::ReadAt::read_at))]
+pub fn instruction_at(code: &Words<'_>, place: usize) -> Option<Placed>
     requires { place ≤ length code.now }
+    ensures first { option_map (λ found. found.instruction) result ≡ instruction_first (drop place code.now) }
+    ensures next { IfSome result (λ found. found.next ≡ place + instruction_length found.instruction) }
+    ensures within { IfSome result (λ found. found.next ≤ length code.now) }
+
+    // the same, by all instructions of the words from the place on
     ensures none { IfNone result (instructions (drop place code.now) ≡ []) }
-    ensures behind { IfSome result (λ found. instructions (drop place code.now) ≡ found.0 ∷ instructions (drop found.1 code.now)) }
-    ensures within { IfSome result (λ found. found.1 ≤ length code.now) }
-    ensures length { IfSome result (λ found. found.1 ≡ place + instruction_length found.0) }
-    ensures encodable { IfSome result (λ found. IsEncodable found.0) }
+    ensures rest { IfSome result (λ found. instructions (drop place code.now)
+        ≡ found.instruction ∷ instructions (drop found.next code.now)) }
 {
-    let len = code.len();
-    if place >= len {
+    let end = code.len();
+    if place == end {
         return None;
     }
-    let second = word_at(code, place + 1);
-    match decode(code.at(place), second) {
-        Ok((instruction, count)) => Some((instruction, place + usize::from(count))),
+    match decode(code.at(place), word_at(code, place + 1)) {
+        Ok((instruction, count)) => Some(Placed {
+            instruction,
+            next: place + usize::from(count),
+        }),
         Err(_) => None,
     }
 }
 
-/// The word with that index, or None past the end.
-fn word_at(code: &Words<'_>, index: usize) -> Option<u16>
-    ensures { result ≡ next_word (drop index code.now) }
+/// The word at a place, if there is one.
+fn word_at(code: &Words<'_>, place: usize) -> Option<u16>
+    ensures { result ≡ next_word (drop place code.now) }
 {
-    if index < code.len() {
-        Some(code.at(index))
+    if place < code.len() {
+        Some(code.at(place))
     } else {
         None
     }
 }
 
-/// Whether an instruction stands in no template of an image that is sealed or not.
-pub fn is_unfit(sealed: bool, instruction: Instr) -> bool
-    ensures { result ≡ is_unfit sealed instruction }
+/// Whether the instruction stands in some template of an image that is sealed or not.
+pub fn may_appear(sealed: bool, instruction: Instr) -> bool
+    ensures { result ≡ may_appear sealed instruction }
 {
     match instruction {
-        Instr::Call(address) => !is_callable(sealed, address),
-        Instr::Jmp(address) => address != u32::from(RETURN_ENTRY),
-        _ => is_unfit_kind(standing_of(instruction)),
+        Instr::Jmp(address) => address == u32::from(RETURN_ENTRY),
+        Instr::Call(address) => may_call(sealed, entry_called(address)),
+        _ => may_stand_as(standing_of(instruction)),
     }
 }
 
-fn is_unfit_kind(standing: Standing) -> bool
-    ensures { result ≡ is_unfit_kind standing }
+fn may_stand_as(standing: Standing) -> bool
+    ensures { result ≡ may_stand_as standing }
 {
     match standing {
-        Standing::Barred(kind) => kind != 5,
-        _ => false,
+        Standing::Barred(kind) => kind == 5,
+        _ => true,
     }
 }
 
-/// Whether it is the address of an entry that may be called.
-fn is_callable(sealed: bool, address: u32) -> bool
-    ensures { result ≡ is_callable sealed address }
-{
-    match u16::try_from(address) {
-        Ok(address) => may_enter(sealed, entry_of(address)),
-        Err(_) => false,
-    }
-}
-
-/// Whether an entry may be called: the guards of loads in a sealed image alone.
-fn may_enter(sealed: bool, entry: Option<Entry>) -> bool
-    ensures { result ≡ may_enter sealed entry }
+/// Whether an image that is sealed or not may call an entry. It jumps to that of returns.
+fn may_call(sealed: bool, entry: Option<Entry>) -> bool
+    ensures { result ≡ may_call sealed entry }
 {
     match entry {
-        None | Some(Entry::Return) => false,
-        Some(Entry::LoadX) | Some(Entry::LoadXInc) | Some(Entry::LoadXDec) => sealed,
-        Some(Entry::LoadYInc) | Some(Entry::LoadYDec) | Some(Entry::LoadY(_)) => sealed,
-        Some(Entry::LoadZInc) | Some(Entry::LoadZDec) | Some(Entry::LoadZ(_)) => sealed,
         Some(Entry::LoadLds) => sealed,
+        Some(Entry::LoadX) | Some(Entry::LoadXInc) | Some(Entry::LoadXDec) => sealed,
+        Some(Entry::LoadY(_)) | Some(Entry::LoadYInc) | Some(Entry::LoadYDec) => sealed,
+        Some(Entry::LoadZ(_)) | Some(Entry::LoadZInc) | Some(Entry::LoadZDec) => sealed,
+        Some(Entry::Return) | None => false,
         Some(_) => true,
+    }
+}
+
+/// The entry of the page that a call enters; addresses of the page have 16 bits.
+pub fn entry_called(address: u32) -> Option<Entry>
+    ensures { result ≡ entry_called address }
+{
+    match u16::try_from(address) {
+        Ok(address) => entry_of(address),
+        Err(_) => None,
     }
 }

@@ -1,25 +1,26 @@
-//! The verifier of rewritten code.
+//! Whether rewritten words spell units.
 //!
-//! [`verify`] says Ok exactly where the words of an image spell units, with their number and the starts of their
-//! templates, and otherwise tells the first condition that stands against it. [`read_units`] gives the units of words
-//! that were accepted.
+//! Whoever takes rewritten code from another can trust it as far as [`verify`] says yes: it says Ok exactly where the
+//! words spell units, with their number and the starts of their templates, and otherwise the first condition of
+//! [`VerifyError`] that stands against it. The words are read three times from the left: as instructions, as templates
+//! side by side, and as units with their targets. [`read_units`] gives the units of words that were accepted.
 #![tactic(auto)]
 
-mod aims;
+mod bank;
 mod ends;
 mod error;
-mod forms;
 mod instructions;
 mod laws;
-mod lengths;
-mod opening;
-mod reading;
+mod several;
+mod single;
 mod starts;
-mod verifying;
+mod targets;
+mod templates;
+mod verdict;
 mod walks;
 
+pub use bank::read_units;
 pub use error::VerifyError;
 pub use laws::words_are_judged;
-pub use reading::read_units;
 pub use starts::Starts;
-pub use verifying::verify;
+pub use verdict::verify;

@@ -1,18 +1,18 @@
-//! The starts of templates, in memory that is taken beforehand.
+//! Where templates start.
 
-ghost use Rattle.std.specs.Prelude.{◌≡◌, ◌<◌, [], ◌∷◌, ◌++◌, length, IfOk, slice_index};
+ghost use Rattle.std.specs.Prelude.{◌≡◌, ◌<◌, ◌∷◌, ◌++◌, [], IfOk, length, slice_index};
 
 use mote_base::NoMemory;
 use std::alloc::Global;
 use std::marker::Model;
 
-/// The greatest number of templates: each has a word, and there are at most this many.
-const MOST: usize = 65535;
+/// As many templates as there can be: code has at most this many words, and a template has one at least.
+const CAPACITY: usize = 65535;
 
-/// The words at which templates start, in order. All memory is taken when it is made.
+/// The first words of templates, in rising order. Its memory is taken once, so that [`crate::verify`] needs none.
 #[derive(Drop)]
 pub struct Starts {
-    places: Vec<u16>,
+    words: Vec<u16>,
 }
 
 impl Model for Starts {
@@ -21,36 +21,38 @@ impl Model for Starts {
 
     ghost Value = { List ℕ };
 
-    ghost view = { λ s. s.places.items };
+    ghost view = { λ starts. starts.words.items };
 
-    ghost invariant = { λ s. 65535 ≤ vec_capacity s.places };
+    ghost invariant = { λ starts. 65535 ≤ vec_capacity starts.words };
 }
 
 impl Starts {
-    /// No starts.
+    /// No starts yet.
     pub fn new(alloc: Global) -> Result<Starts, NoMemory>
-        ensures { IfOk result (λ starts. starts ≡ []) }
+        ensures empty { IfOk result (λ starts. starts ≡ []) }
     {
-        let places = Vec::with_capacity(alloc, MOST)?;
-        Ok(Starts { places })
+        Ok(Starts {
+            words: Vec::with_capacity(alloc, CAPACITY)?,
+        })
     }
 
+    /// The starts in rising order.
     pub fn as_slice(&self) -> &[u16]
         ensures { result.now ≡ self.now }
     {
-        &self.places
+        &self.words
     }
 
     pub(crate) fn clear(&mut self)
         ensures { self.new ≡ [] }
     {
-        self.places.clear();
+        self.words.clear();
     }
 
-    pub(crate) fn push(&mut self, place: u16)
-        requires { length self.old < 65535 }
-        ensures { self.new ≡ self.old ++ place ∷ [] }
+    pub(crate) fn push(&mut self, word: u16)
+        requires room { length self.old < 65535 }
+        ensures { self.new ≡ self.old ++ word ∷ [] }
     {
-        self.places.push(place).unwrap();
+        self.words.push(word).unwrap();
     }
 }

@@ -1,55 +1,56 @@
-//! The walks over the words from the left: instruction by instruction, and template by template.
+//! The words from the left, instruction by instruction and template by template.
 
-ghost use Rattle.std.specs.Prelude.{◌≡◌, ◌≤◌, IfNone, List, length};
-ghost use Rattle.unit_code.specs.Beside.{form_words};
-ghost use Rattle.harbor_verify.specs.Walks.{unfit, starts_in, gap};
+ghost use Rattle.std.specs.Prelude.{◌≡◌, ◌≤◌, IfNone, length};
+ghost use Rattle.harbor_verify.specs.Walks.{gap, starts_in, unfit};
 
-use crate::forms::permitted_at;
-use crate::instructions::{instruction_at, is_unfit};
-use crate::lengths::form_words;
+use crate::instructions::{instruction_at, may_appear};
 use crate::starts::Starts;
+use crate::templates::{allowed_at, words_of};
 use mote_base::Words;
 
-/// The first place, word by word, where no permitted instruction stands.
+/// The first place, instruction by instruction, at which none stands that may appear.
 pub fn first_unfit(code: &Words<'_>, sealed: bool) -> Option<u16>
     requires { length code.now ≤ 65535 }
     ensures { result ≡ unfit sealed code.now }
 {
-    // where the next instruction begins
+    let end = code.len();
     let mut next = 0;
-    for place in 0..code.len() {
-        if place < next {
-            continue;
+    // each instruction has a word at least
+    for _ in 0..end {
+        if next == end {
+            return None;
         }
-        let Some((instruction, behind)) = instruction_at(code, place) else {
-            return Some(place as u16);
+        let Some(found) = instruction_at(code, next) else {
+            return Some(next as u16);
         };
-        if is_unfit(sealed, instruction) {
-            return Some(place as u16);
+        if !may_appear(sealed, found.instruction) {
+            return Some(next as u16);
         }
-        next = behind;
+        next = found.next;
     }
     None
 }
 
-/// Where templates start. The answer is the first place, template by template, where none stands.
-pub fn read_starts(code: &Words<'_>, sealed: bool, starts: &mut Starts) -> Option<u16>
+/// Notes where templates start, in an image that is sealed or not. The answer is the first place, template by template,
+/// at which none stands.
+pub fn note_starts(code: &Words<'_>, sealed: bool, starts: &mut Starts) -> Option<u16>
     requires { length code.now ≤ 65535 }
     ensures gap { result ≡ gap sealed code.now }
     ensures starts { IfNone result (starts.new ≡ starts_in code.now) }
 {
     starts.clear();
-    // where the next template starts
+    let end = code.len();
     let mut next = 0;
-    for place in 0..code.len() {
-        if place < next {
-            continue;
+    // each template has a word at least
+    for _ in 0..end {
+        if next == end {
+            return None;
         }
-        let Some(form) = permitted_at(code, place, sealed) else {
-            return Some(place as u16);
+        let Some(form) = allowed_at(code, next, sealed) else {
+            return Some(next as u16);
         };
-        starts.push(place as u16);
-        next = place + usize::from(form_words(form));
+        starts.push(next as u16);
+        next += usize::from(words_of(form));
     }
     None
 }

@@ -1,9 +1,13 @@
 -- What a dump prints, line by line.
-use Rattle.std.proofs.Common.{◌≡◌, ◌∙◌, refl, sym, ap, ℕ, suc, ◌+◌, ◌-◌, ◌<◌, ◌≤◌, eqb, inl, inr, List, [], ◌∷◌, ◌++◌, length, drop, map, filter, Option, Some, None, arith}
+use Rattle.std.proofs.Common.{◌≡◌, ◌∙◌, refl, sym, ap, ℕ, zero, suc, ◌+◌, ◌-◌, ◌<◌, ◌≤◌, eqb, inl, inr, List, [], ◌∷◌, ◌++◌, length, drop, map, filter, Option, Some, None, arith}
 use Rattle.std.specs.Prelude.{nat_le, option_map, slice_get, IfSome}
 use Rattle.std.proofs.Math.Seq.{drop-cons}
 use Rattle.std.proofs.lemmas.Bool.{cases_Bool, cases_lt, eqb-true, eqb-false, eq-eqb, ne_eqb, le-leb, lt-leb}
+use Rattle.std.proofs.lemmas.List.{drop_all}
 use Rattle.std.proofs.lemmas.Option.{none-some, same_Some, slice_get_within, get_or_from_slice_get}
+use Rattle.mote_base.specs.Timers.{timer_limit}
+use Rattle.mote_base.specs.declared.timer.Timer.{Timer}
+use Rattle.sos_timer.specs.declared.timers.TimerRow.{TimerRow}
 use Rattle.mote_layout.specs.Memory.{block_count, domain_count}
 use Rattle.mote_layout.specs.Blocks.{AreBlocks, AreBlocksFrom, block_address, segment_at, starting_at}
 use Rattle.mote_layout.specs.declared.segment.Segment.{Segment}
@@ -13,10 +17,10 @@ use Rattle.domain_model.specs.declared.line.TraceLine.{TraceLine}
 use Rattle.domain_model.specs.declared.line.TraceLine.TheVariants as line
 use Rattle.domain_model.specs.State.{Message, Loaded}
 use Rattle.domain_model.specs.Modules.{module_at}
-use Rattle.domain_model.specs.Dump.{block_line, module_line, module_lines, modules_dumped}
+use Rattle.domain_model.specs.Dump.{block_line, module_line, module_lines, modules_dumped, timer_line}
 use Rattle.kernel_call.specs.declared.loaded.ModuleRow.{ModuleRow}
 use Rattle.kernel_call.specs.Rows.{row_of}
-use Rattle.kernel_call.specs.Values.{at_most_one, begun_by}
+use Rattle.kernel_call.specs.Values.{at_most_one, begun_by, timer_told}
 
 -- The modules from a domain on.
 abbrev pub lines_from : List Loaded → ℕ → List TraceLine
@@ -141,3 +145,29 @@ starting_within (Some s) ss block blocks is = (starting_at-fits 0 ss block s blo
 pub messages_next : (ms : List Message) (place : ℕ) (m : Message) → slice_get ms place ≡ Some m → drop place ms ≡ m ∷ drop (suc place) ms
 messages_next ms place m is =
     drop-cons ms place m (slice_get_within ms place m is) ∙ ap (λ (x : Message). x ∷ drop (suc place) ms) (get_or_from_slice_get ms place m m is)
+
+-- What is told of a timer.
+abbrev timer_row : Timer → TimerRow
+timer_row t = record { «module» = t.«module»; id = t.id; due = t.due }
+
+pub told_timer : (o : Option Timer) (row : TimerRow) → Some row ≡ option_map timer_row o → line.DumpTimer row.«module» row.id row.due ∷ [] ≡ timer_told o
+told_timer None row is = absurd (none-some row (sym is))
+told_timer (Some t) row is = ap (λ (r : TimerRow). line.DumpTimer r.«module» r.id r.due ∷ []) (same_Some row (timer_row t) is)
+
+pub told_no_timer : (o : Option Timer) → None ≡ option_map timer_row o → timer_told o ≡ []
+told_no_timer None is = refl
+told_no_timer (Some t) is = absurd (none-some (timer_row t) is)
+
+pub one_timer : (o : Option Timer) → length (timer_told o) ≤ 1
+one_timer None = omega arith
+one_timer (Some t) = omega arith
+
+-- The timers from a place on.
+pub timers_next : (ts : List Timer) (place : ℕ) → map timer_line (drop place ts) ≡ timer_told (slice_get ts place) ++ map timer_line (drop (suc place) ts)
+timers_next [] zero = refl
+timers_next [] (suc place) = refl
+timers_next (t ∷ ts) zero = refl
+timers_next (t ∷ ts) (suc place) = timers_next ts place
+
+pub timers_last : (ts : List Timer) → length ts ≤ timer_limit → map timer_line (drop timer_limit ts) ≡ []
+timers_last ts few = ap (λ (l : List Timer). map timer_line l) (drop_all timer_limit ts few)

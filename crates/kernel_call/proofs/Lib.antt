@@ -1,8 +1,15 @@
 pub mod Dumps
+pub mod Keeping
 pub mod Least
 pub mod Mails
 pub mod Packets
+pub mod Parcels
+pub mod Placing
 pub mod Receivers
+pub mod Reminders
 pub mod Rooms
 pub mod Seats
 pub mod Sent
+pub mod Sounds
+pub mod Tables
+pub mod TakenBack

@@ -8,7 +8,7 @@ use Rattle.mote_base.specs.Messages.{Lists, queue_limit, list_of, in_order, appe
 use Rattle.mote_base.proofs.Named.{unnamed-none, unnamed-without, without-none}
 use Rattle.mote_layout.specs.Memory.{heap_start, heap_end}
 use Rattle.mote_layout.specs.Blocks.{AreBlocks}
-use Rattle.mote_layout.specs.Parcels.{kernel_entries}
+use Rattle.mote_layout.specs.Parcels.{Payload, kernel_entries}
 use Rattle.mote_layout.specs.Requests.{HoldsBytes}
 use Rattle.mote_layout.specs.declared.segment.Segment.{Segment}
 use Rattle.mote_layout.proofs.Beginnings.{begins_at}
@@ -21,9 +21,10 @@ use Rattle.domain_model.proofs.PayloadLaws.{loses_load, each_stays, naming_in-ap
 use Rattle.kernel_call.specs.Mail.{unloaded}
 
 -- A message without a payload is posted, or finds its queue full.
-pub posted_kept : (ss : List Segment) (q : Lists Message) (hand : Option Message) (m : Message) → m.load ≡ None → HoldsPayloads ss q hand → HoldsPayloads ss (posted m.high m q) hand
-posted_kept ss q hand m none h =
-    cond_both (nat_lt (length (list_of m.high q)) queue_limit) (appended m.high m q) q (λ (l : Lists Message). HoldsPayloads ss l hand) (λ room. payloads_posted ss q hand m none h) (λ full. h)
+pub posted_kept : (ss : List Segment) (q : Lists Message) (hand : Option Message) (kept : List (Option Payload)) (m : Message) → m.load ≡ None → HoldsPayloads ss q hand kept → HoldsPayloads ss (posted m.high m q) hand kept
+posted_kept ss q hand kept m none h =
+    cond_both (nat_lt (length (list_of m.high q)) queue_limit) (appended m.high m q) q (λ (l : Lists Message). HoldsPayloads ss l hand kept)
+    (λ room. payloads_posted ss q hand kept m none h) (λ full. h)
 
 pub unloaded_none : (hand : Option Message) → load_of (unloaded hand) ≡ None
 unloaded_none None = refl
@@ -42,9 +43,7 @@ naming_first id b [] m is = absurd (none-some m is)
 naming_first id b (x ∷ xs) m is =
     elim (cases_Bool (names id x)) [
       | inl named ↦
-          let some : Some x ≡ Some m = rw named at is in
-          let same : x ≡ m = same_Some x m some in
-          rw (named, same) refl
+          rw (named, same_Some x m (rw named at is)) refl
       | inr other ↦
           let rest = naming_first id b xs m (rw other at is) in
           rw other (omega (arith, rest))
@@ -98,16 +97,17 @@ freed_none id (x ∷ xs) ss is =
 
 -- The messages that name an id go one by one with their payloads. What is left in the end is the same from the first on, and what
 -- waits still is held.
-pub record IsClearing (id : ℕ) (ss₀ : List Segment) (q₀ : Lists Message) (hand₀ : Option Message) (ss : List Segment) (q : Lists Message) (hand : Option Message) : Type 0 where
+pub record IsClearing (id : ℕ) (ss₀ : List Segment) (q₀ : Lists Message) (hand₀ : Option Message) (kept₀ : List (Option Payload)) (ss : List Segment) (q : Lists Message) (hand : Option Message) (kept : List (Option Payload)) : Type 0 where
   pub blocks : AreBlocks ss
   pub few : (b : ℕ) → naming_in b (in_order q) ≤ kernel_entries b ss
   pub each : AllByRecursion (HasHeld ss) (in_order q)
   pub others : unnamed id q ≡ unnamed id q₀
   pub freed : without_payloads id (in_order q) ss ≡ without_payloads id (in_order q₀) ss₀
   pub in_hand : hand ≡ hand₀
+  pub beside : kept ≡ kept₀
 
-pub clearing_begins : (id : ℕ) (ss : List Segment) (q : Lists Message) (hand : Option Message) → AreBlocks ss → HoldsPayloads ss q hand → IsClearing id ss q hand ss q hand
-clearing_begins id ss q hand blocks h =
+pub clearing_begins : (id : ℕ) (ss : List Segment) (q : Lists Message) (hand : Option Message) (kept : List (Option Payload)) → AreBlocks ss → HoldsPayloads ss q hand kept → IsClearing id ss q hand kept ss q hand kept
+clearing_begins id ss q hand kept blocks h =
     record {
       blocks = blocks;
       few = λ b. omega (arith, h.once b, naming_in-append b q.high q.low);
@@ -115,13 +115,14 @@ clearing_begins id ss q hand blocks h =
       others = refl;
       freed = refl;
       in_hand = refl;
+      beside = refl;
     }
 
-module _ {id : ℕ} {ss₀ : List Segment} {q₀ : Lists Message} {hand₀ : Option Message} {ss : List Segment} {q : Lists Message} {hand : Option Message} (c : IsClearing id ss₀ q₀ hand₀ ss q hand) where
+module _ {id : ℕ} {ss₀ : List Segment} {q₀ : Lists Message} {hand₀ : Option Message} {kept₀ : List (Option Payload)} {ss : List Segment} {q : Lists Message} {hand : Option Message} {kept : List (Option Payload)} (c : IsClearing id ss₀ q₀ hand₀ kept₀ ss q hand kept) where
   pub next_held : (m : Message) → first (names id) q ≡ Some m → IsHeld ss m.load
   next_held m is = found_each id (HasHeld ss) (in_order q) m is c.each
 
-  pub clearing_next : (m : Message) → first (names id) q ≡ Some m → IsClearing id ss₀ q₀ hand₀ (without_load m.load ss) (without (names id) q) hand
+  pub clearing_next : (m : Message) → first (names id) q ≡ Some m → IsClearing id ss₀ q₀ hand₀ kept₀ (without_load m.load ss) (without (names id) q) hand kept
   clearing_next m is =
       let ms = in_order q in
       let now = without_load m.load ss in
@@ -135,6 +136,7 @@ module _ {id : ℕ} {ss₀ : List Segment} {q₀ : Lists Message} {hand₀ : Opt
         others = unnamed-without id q ∙ c.others;
         freed = ap (λ (l : List Message). without_payloads id l now) rest ∙ freed_first id ms m ss is ∙ c.freed;
         in_hand = c.in_hand;
+        beside = c.beside;
       }
 
   -- What is left where none names the id any more.
@@ -144,6 +146,6 @@ module _ {id : ℕ} {ss₀ : List Segment} {q₀ : Lists Message} {hand₀ : Opt
   pub blocks_left : first (names id) q ≡ None → ss ≡ without_payloads id (in_order q₀) ss₀
   blocks_left none = sym (freed_none id (in_order q) ss none) ∙ c.freed
 
-  pub holds_left : first (names id) q ≡ None → AreBlocks ss₀ → HoldsPayloads ss₀ q₀ hand₀ → HoldsPayloads ss (without (names id) q) hand
+  pub holds_left : first (names id) q ≡ None → AreBlocks ss₀ → HoldsPayloads ss₀ q₀ hand₀ kept₀ → HoldsPayloads ss (without (names id) q) hand kept
   holds_left none blocks h =
-      rw (queues_left none, blocks_left none, c.in_hand) (payloads_unnamed id ss₀ q₀ hand₀ blocks h).payloads
+      rw (queues_left none, blocks_left none, c.in_hand, c.beside) (payloads_unnamed id ss₀ q₀ hand₀ kept₀ blocks h).payloads

@@ -1,12 +1,13 @@
 //! What a dump prints.
-ghost use Rattle.std.specs.Prelude.{◌≡◌, ◌≤◌, ◌<◌, ◌+◌, ◌++◌, ◌∷◌, [], ℕ, length, map, IfSome};
+ghost use Rattle.std.specs.Prelude.{◌≡◌, ◌≤◌, ◌<◌, ◌+◌, ◌++◌, ◌∷◌, [], ℕ, length, map, slice_get, IfSome};
 ghost use Rattle.mote_base.specs.Messages.{list_of, queue_limit};
+ghost use Rattle.mote_base.specs.Timers.{timer_limit};
 ghost use Rattle.mote_layout.specs.Limits.{turn_lines};
 ghost use Rattle.mote_layout.specs.Memory.{block_count, domain_count};
 ghost use Rattle.mote_layout.specs.Blocks.{AreBlocks, starting_at};
-ghost use Rattle.domain_model.specs.Dump.{block_line, dumped, message_line, module_line, modules_dumped, owner_told};
+ghost use Rattle.domain_model.specs.Dump.{block_line, dumped, message_line, module_line, modules_dumped, owner_told, timer_line};
 ghost use Rattle.domain_model.specs.Modules.{module_at};
-ghost use Rattle.kernel_call.specs.Values.{at_most_one, begun_by};
+ghost use Rattle.kernel_call.specs.Values.{at_most_one, begun_by, timer_told};
 
 use crate::frame::address_of;
 use crate::kernel::Kernel;
@@ -14,12 +15,14 @@ use crate::mail::Mail;
 use crate::modules::Modules;
 use domain_model::{Lines, TraceLine};
 use memory_map::{MemoryMap, Segment};
-use mote_base::Msg;
+use mote_base::{Msg, TIMERS};
 use mote_layout::{BLOCK_BYTES, BLOCKS, DOMAINS, KERNEL, block_address};
 use sos_heap::Parcel;
+use sos_timer::Timers;
 
 impl Kernel {
-    /// Tells the modules by their domains, the blocks by their addresses, and the messages in the order in which they are taken.
+    /// Tells the modules by their domains, the blocks by their addresses, the messages in the order in which they are taken, and
+    /// the timers in the order in which they fire.
     pub fn dump(&self, lines: &mut Lines)
         requires empty { lines.old ≡ [] }
         ensures { lines.new ≡ dumped self.now }
@@ -29,6 +32,7 @@ impl Kernel {
         dump_blocks(self.mail.map(), &self.modules, lines);
         dump_messages(&self.mail, true, lines);
         dump_messages(&self.mail, false, lines);
+        dump_timers(&self.timers, lines);
         lines.add(TraceLine::DumpEnd);
     }
 }
@@ -148,5 +152,32 @@ fn message_line(high: bool, message: &Msg<Parcel>) -> TraceLine
         to: message.to,
         sort: message.sort,
         address: address_of(message),
+    }
+}
+
+/// The lines of the timers, which are as few as may run.
+fn dump_timers(timers: &Timers, lines: &mut Lines)
+    requires { length lines.old + timer_limit ≤ turn_lines }
+    ensures lines { lines.new ≡ lines.old ++ map timer_line timers.now }
+    ensures few { length lines.new ≤ length lines.old + timer_limit }
+{
+    for place in 0..TIMERS {
+        tell_timer(timers, place, lines);
+    }
+}
+
+/// The line of the timer at a place in the order in which they fire, if there is one.
+#[tactic(auto, using(crate::proofs::Dumps::told_timer, crate::proofs::Dumps::told_no_timer))]
+fn tell_timer(timers: &Timers, place: usize, lines: &mut Lines)
+    requires { length lines.old < turn_lines }
+    ensures lines { lines.new ≡ lines.old ++ timer_told (slice_get timers.now place) }
+    ensures few { length timers.now ≤ timer_limit }
+{
+    if let Some(row) = timers.row(place) {
+        lines.add(TraceLine::DumpTimer {
+            module: row.module,
+            id: row.id,
+            due: row.due,
+        });
     }
 }

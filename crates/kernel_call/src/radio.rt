@@ -11,6 +11,7 @@ ghost use Rattle.domain_model.specs.Modules.{is_loaded};
 ghost use Rattle.domain_model.specs.Radio.{heard, heard_bytes, message_by_radio};
 ghost use Rattle.kernel_call.specs.Values.{given_as, packet, packet_line};
 
+use crate::frame::empty_message;
 use crate::kernel::Kernel;
 use domain_model::{Lines, TraceLine, Why};
 use mote_base::Msg;
@@ -39,7 +40,8 @@ impl Kernel {
     fn hear(&mut self, to: u8, sort: u8, bytes: &[u8]) -> Option<Why>
         requires { length bytes.now ≤ payload_limit }
         ensures kernel { self.new ≡ (heard (packet 0 to sort bytes.now) self.old).kernel }
-        ensures lines { packet_line self.old.clock result to sort ≡ (heard (packet 0 to sort bytes.now) self.old).lines }
+        ensures lines { packet_line self.old.clock result to sort
+            ≡ (heard (packet 0 to sort bytes.now) self.old).lines }
     {
         if !self.modules.is_loaded(to) {
             return Some(Why::Module);
@@ -91,7 +93,8 @@ impl Kernel {
         requires room { nat_lt (length self.old.queues.low) queue_limit ≡ true }
         ensures none { IfNone result (given self.old kernel message.len ≡ None) }
         ensures same { IfNone result (self.new ≡ self.old) }
-        ensures given { IfSome result (λ address. given self.old kernel message.len ≡ Some (given_as self.new address)) }
+        ensures given { IfSome result
+            (λ address. given self.old kernel message.len ≡ Some (given_as self.new address)) }
         ensures rest { IfSome result (λ address. self.new ≡ record (with_given self.old (given_as self.new address)) {
           queues = appended false (carrying message (block_of address)) self.old.queues;
         }) }
@@ -110,16 +113,12 @@ fn message_by_radio(to: u8, sort: u8, bytes: &[u8]) -> Msg<Parcel>
     requires { length bytes.now ≤ payload_limit }
     ensures { result ≡ message_by_radio (packet 0 to sort bytes.now) None }
 {
+    let len = bytes.len() as u16;
     Msg {
-        to,
         from: RADIO,
-        sort,
-        byte: 0,
-        word: 0,
         long: true,
-        len: bytes.len() as u16,
-        load: None,
-        high: false,
+        len,
+        ..empty_message(to, sort)
     }
 }
 

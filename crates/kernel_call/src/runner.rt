@@ -24,15 +24,15 @@ pub trait Runner: Drop {
     /// What the next unit does to kernel and runner, with all the lines that it writes.
     ghost acts: { KernelState → Self → ActedBy Self };
 
-    /// With other code in a domain, with none there, and with another unit next.
-    ghost placed_by: { Self → ℕ → BankListing → Self };
+    /// What holds of each value of the type.
+    ghost holds: { Self → Type 0 };
+
+    /// The runner with another unit next, with the code of a domain taken out, and with other code put in there.
+    ghost entered_by: { Self → ℕ → ℕ → Self };
 
     ghost cleared_by: { Self → ℕ → Self };
 
-    ghost entered_by: { Self → ℕ → ℕ → Self };
-
-    /// What holds of each value of the type.
-    ghost holds: { Self → Type 0 };
+    ghost placed_by: { Self → ℕ → BankListing → Self };
 
     /// Tells that `holds` does.
     fn known(&self)

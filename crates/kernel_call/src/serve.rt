@@ -1,12 +1,12 @@
 //! The calls by which a running module asks the kernel for something.
 ghost use Rattle.std.specs.Prelude.{◌≡◌, ◌<◌, ◌≤◌, ◌+◌, ◌++◌, ◌==◌, IfSome, IfNone, IsSome, Some, None, true, false, length};
-ghost use Rattle.std.specs.Option.{option_map_or};
 ghost use Rattle.mote_layout.specs.Memory.{heap_start, heap_end};
 ghost use Rattle.mote_layout.specs.Limits.{payload_limit, turn_lines};
 ghost use Rattle.mote_layout.specs.Memory.{domain_count};
-ghost use Rattle.domain_model.specs.Units.{service_of};
+ghost use Rattle.mote_layout.specs.Page.{kernel_call_count};
+ghost use Rattle.domain_model.specs.Services.{service_of};
 ghost use Rattle.domain_model.specs.Calls.{answered, change_own, free, malloc, message_of, long_message_of, long_to, my_id, clock, post_long, post_short, say, send, serve, take_payload};
-ghost use Rattle.domain_model.specs.Modules.{id_at, is_loaded};
+ghost use Rattle.domain_model.specs.Modules.{in_use, is_loaded};
 ghost use Rattle.domain_model.specs.Payloads.{holds_bytes};
 ghost use Rattle.domain_model.specs.State.{bytes_at, without_counter};
 ghost use Rattle.domain_model.specs.Given.{given, with_given};
@@ -34,6 +34,10 @@ const POST_SHORT: u8 = 3;
 const POST_LONG: u8 = 4;
 
 const TAKE: u8 = 5;
+
+const TIMER_START: u8 = 6;
+
+const TIMER_STOP: u8 = 7;
 
 const SAY: u8 = 8;
 
@@ -83,7 +87,7 @@ impl Kernel {
     /// bytes than are posted or sent, the call is refused before anything else is looked at.
     pub fn serve(&mut self, n: u8, lines: &mut Lines) -> Served
         requires handler { IsSome self.old.running }
-        requires built { IsSome (service_of n) }
+        requires number { n < kernel_call_count }
         requires room { length lines.old < turn_lines }
         ensures kernel { IfSome self.old.running (λ run. self.new ≡ (serve (service_of n) run self.old).kernel) }
         ensures lines { IfSome self.old.running
@@ -96,7 +100,8 @@ impl Kernel {
 
     fn serve_running(&mut self, n: u8, run: &Running, lines: &mut Lines) -> Served
         requires domain { run.now.domain < domain_count }
-        requires built { IsSome (service_of n) }
+        requires used { in_use self.old.modules run.now.domain ≡ true }
+        requires number { n < kernel_call_count }
         requires room { length lines.old < turn_lines }
         ensures kernel { self.new ≡ (serve (service_of n) run.now self.old).kernel }
         ensures lines { lines.new ≡ lines.old ++ (serve (service_of n) run.now self.old).lines }
@@ -109,6 +114,8 @@ impl Kernel {
             POST_SHORT => self.post_short(run),
             POST_LONG => return self.post_long(run),
             TAKE => self.take(run),
+            TIMER_START => self.timer_start(run),
+            TIMER_STOP => self.timer_stop(run),
             SAY => self.say(run, lines),
             CLOCK => self.tell_clock(),
             SEND => return self.send(run, lines),
@@ -265,22 +272,11 @@ impl Kernel {
         requires { run.now.domain < domain_count }
         ensures { self.new ≡ take_payload self.old run.now }
     {
-        let address = if self.is_receiver(run) {
-            self.mail.take(run.domain)
-        } else {
-            0
-        };
-        answer(&mut self.cpu, address);
-    }
-
-    /// Whether the message in hand is the running module's.
-    fn is_receiver(&self, run: &Running) -> bool
-        ensures { result ≡ option_map_or (λ m. m.to == id_at self.now.modules run.now.domain) self.now.hand false }
-    {
-        match self.mail.hand() {
-            Some(message) => message.to == self.modules.id_at(run.domain),
-            None => false,
+        let mut address = 0;
+        if self.is_receiver(run) {
+            address = self.mail.take(run.domain);
         }
+        answer(&mut self.cpu, address);
     }
 
     fn send(&mut self, run: &Running, lines: &mut Lines) -> Served

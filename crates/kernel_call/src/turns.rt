@@ -1,20 +1,19 @@
 //! What turns do to the kernel.
-ghost use Rattle.std.specs.Prelude.{◌≡◌, ◌↔◌, ◌<◌, ◌≤◌, ◌++◌, ◌∷◌, [], ℕ, IfSome, IfNone, IsSome, IsSomeAnd, Some, None, length, option_map, true, false};
+ghost use Rattle.std.specs.Prelude.{◌≡◌, ◌↔◌, ◌<◌, ◌≤◌, ◌++◌, ◌∷◌, [], ℕ, IfSome, IsSome, IsSomeAnd, Some, None, length, option_map, true, false};
 ghost use Rattle.mote_base.specs.Messages.{front, without_front};
 ghost use Rattle.mote_layout.specs.Limits.{provided_limit, turn_lines};
 ghost use Rattle.mote_layout.specs.Memory.{domain_count};
-ghost use Rattle.module_image.specs.Contents.{FaceRules};
+ghost use Rattle.module_image.specs.Contents.{FaceRules, constants_limit};
 ghost use Rattle.domain_model.specs.State.{RunnerState, dispatched, with_processor};
-ghost use Rattle.domain_model.specs.Modules.{id_at, in_use, is_loaded, module_at, module_named};
-ghost use Rattle.domain_model.specs.Turn.{at_clock, begun, dispatch, final_to, handler_ended, init_to, kernel_message, purged, state_block, with_none_ending};
-ghost use Rattle.domain_model.specs.Given.{with_given};
+ghost use Rattle.domain_model.specs.Modules.{constants_at, id_at, in_use, is_loaded, module_at, module_named};
+ghost use Rattle.domain_model.specs.Turn.{at_clock, begun, dispatch, final_to, handler_ended, init_to, kernel_message, purged, with_none_ending};
 ghost use Rattle.kernel_call.specs.Admission.{admission, newcomer};
 ghost use Rattle.kernel_call.specs.Rows.{row_of};
 ghost use Rattle.kernel_call.specs.Sound.{last_moment};
-ghost use Rattle.kernel_call.specs.Values.{first_running, given_as};
+ghost use Rattle.kernel_call.specs.Values.{first_running};
 
 use crate::admitted::Admitted;
-use crate::frame::dispatch;
+use crate::frame::{dispatch, empty_message, ready};
 use crate::kernel::Kernel;
 use crate::loaded::{Loaded, ModuleRow};
 use arrayvec::ArrayVec;
@@ -32,9 +31,8 @@ const FINAL: u8 = 1;
 const KERNEL_SENDER: u8 = 0;
 
 impl Kernel {
-    /// Takes a module in, with a cleared state block, or tells why not. Its handler does not start yet.
-    ///
-    /// An image has neither constants nor a seal yet.
+    /// Takes a module in, with a cleared state block and its constants in a block of the kernel's, zeros behind them, or tells why
+    /// not. Where one of the two has no place, neither is given. Its handler does not start yet.
     #[tactic(auto, using(crate::proofs::Receivers::received_more, crate::proofs::Seats::pushed_there, domain_model::proofs::ModuleLaws::in_use_new))]
     pub fn admit(
         &mut self,
@@ -48,37 +46,39 @@ impl Kernel {
         requires outside { self.old.running ≡ None }
         requires face { FaceRules face.now }
         requires entries { length entries.now ≡ length face.now.provided.items }
-        requires constants { constants.now ≡ [] }
-        requires sealed { sealed ≡ false }
+        requires constants { length constants.now ≤ constants_limit }
         ensures kernel { self.new ≡ (admission self.old
-            (newcomer face.now state_size handler entries.now)).kernel }
-        ensures answer { result ≡ (admission self.old (newcomer face.now state_size handler entries.now)).answer }
+            (newcomer face.now state_size handler entries.now constants.now sealed)).kernel }
+        ensures answer { result ≡ (admission self.old
+            (newcomer face.now state_size handler entries.now constants.now sealed)).answer }
         ensures used { (d : ℕ) → result ≡ Admitted.Placed d → in_use self.new.modules d ≡ true }
         ensures there { (d : ℕ) → result ≡ Admitted.Placed d → IsSomeAnd (module_at self.new.modules d)
-            (λ m. (m.face ≡ face.now) × (m.domain ≡ d) × (m.handler ≡ handler) × (m.entries ≡ entries.now)) }
+            (λ m. (m.face ≡ face.now) × (m.domain ≡ d) × (m.handler ≡ handler) × (m.entries ≡ entries.now)
+            × (m.sealed ≡ sealed)) }
     {
-        prove!(constants.is_empty());
-        prove!(!sealed);
         if self.modules.is_loaded(face.id) {
             return Admitted::Duplicate;
         }
         let Some(domain) = self.modules.free_domain() else {
             return Admitted::Domain;
         };
-        let Some(state) = self.give_state(domain, state_size) else {
+        let count = constants.len() as u16;
+        let Some(place) = self.mail.place(domain, state_size, count) else {
             return Admitted::Room;
         };
+        ready(&mut self.cpu, &place, state_size, constants);
         self.modules.add(Loaded {
-            face: face.copied(),
             domain,
-            state,
+            face: face.copied(),
             handler,
             entries: numbers(entries),
+            place,
+            sealed,
         });
         Admitted::Placed(domain)
     }
 
-    /// Takes the module in a domain out, with its blocks and every message from or to it. The payloads of these messages are freed.
+    /// Takes the module in a domain out, with its blocks, its timers, and every message from or to it. The payloads of these messages are freed.
     #[tactic(auto, using(crate::proofs::Receivers::received_rest, crate::proofs::Seats::in_use_within))]
     pub fn purge(&mut self, d: u8)
         requires outside { self.old.running ≡ None }
@@ -89,15 +89,17 @@ impl Kernel {
         let id = self.modules.id_at(d);
         self.modules.remove(d);
         self.mail.clear(id, d);
+        self.timers.purge(id);
     }
 
     /// Starts the handler of the module in a domain with its first message.
+    #[tactic(auto, using(crate::proofs::Seats::constants_there))]
     pub fn begin(&mut self, d: u8, lines: &mut Lines)
         requires outside { self.old.running ≡ None }
         requires loaded { in_use self.old.modules d ≡ true }
         requires room { length lines.old < turn_lines }
         ensures kernel { IfSome (module_at self.old.modules d)
-            (λ m. self.new ≡ begun self.old m.domain m.state (init_to m.face.id)) }
+            (λ m. self.new ≡ begun self.old m.domain m.state m.constants (init_to m.face.id)) }
         ensures lines { IfSome (module_at self.old.modules d)
             (λ m. lines.new ≡ lines.old ++ TraceLine.Run self.old.clock m.face.id 0 0 ∷ []) }
     {
@@ -107,12 +109,15 @@ impl Kernel {
     }
 
     /// Starts the handler of the module in a domain with its last message: it is the one that ends.
+    #[tactic(auto, using(crate::proofs::Seats::constants_there))]
     pub fn finish(&mut self, d: u8, lines: &mut Lines)
         requires outside { self.old.running ≡ None }
         requires loaded { in_use self.old.modules d ≡ true }
         requires room { length lines.old < turn_lines }
         ensures kernel { IfSome (module_at self.old.modules d)
-            (λ m. self.new ≡ record (begun self.old m.domain m.state (final_to m.face.id)) { ending = Some m.face.id }) }
+            (λ m. self.new ≡ record (begun self.old m.domain m.state m.constants (final_to m.face.id)) {
+              ending = Some m.face.id;
+            }) }
         ensures lines { IfSome (module_at self.old.modules d)
             (λ m. lines.new ≡ lines.old ++ TraceLine.Run self.old.clock m.face.id 1 0 ∷ []) }
     {
@@ -129,7 +134,8 @@ impl Kernel {
         requires room { length lines.old < turn_lines }
         ensures none { (result ≡ None) ↔ (front self.old.queues ≡ None) }
         ensures kernel { (r : RunnerState) → self.new ≡ (dispatch (front self.old.queues) self.old r).kernel }
-        ensures lines { (r : RunnerState) → lines.new ≡ lines.old ++ (dispatch (front self.old.queues) self.old r).lines }
+        ensures lines { (r : RunnerState) → lines.new
+            ≡ lines.old ++ (dispatch (front self.old.queues) self.old r).lines }
         ensures receiver { IfSome result (λ d. IfSome (front self.old.queues)
             (λ m. module_at self.new.modules d ≡ module_named self.old.modules m.to)) }
     {
@@ -138,7 +144,7 @@ impl Kernel {
         Some(row.domain)
     }
 
-    /// The handler is over. A payload that was not taken is freed. Answers the id of the module that ends.
+    /// The handler is over, with all calls in it. A payload that was not taken is freed. Answers the id of the module that ends.
     pub fn end_handler(&mut self) -> Option<u8>
         requires handler { IsSome self.old.running }
         ensures ending { result ≡ self.old.ending }
@@ -146,6 +152,7 @@ impl Kernel {
     {
         let ending = self.ending;
         self.running = None;
+        self.frames.drop_all();
         self.ending = None;
         self.mail.lay_down();
         ending
@@ -161,11 +168,12 @@ impl Kernel {
     }
 
     /// The row of the module in a domain where there is one.
-    #[tactic(auto, using(crate::proofs::Seats::used_row))]
+    #[tactic(auto, using(crate::proofs::Seats::used_row, crate::proofs::Seats::row_in_use))]
     fn row(&self, d: u8) -> ModuleRow
         requires { in_use self.now.modules d ≡ true }
         ensures row { Some result ≡ option_map row_of (module_at self.now.modules d) }
         ensures within { result.domain < domain_count }
+        ensures used { in_use self.now.modules result.domain ≡ true }
     {
         match self.modules.at(d) {
             Some(row) => row,
@@ -177,19 +185,24 @@ impl Kernel {
     fn hold(&mut self, row: &ModuleRow, sort: u8)
         requires outside { self.old.running ≡ None }
         requires domain { row.now.domain < domain_count }
-        ensures { self.new ≡ record self.old { running = Some (first_running row.now.domain); hand = Some (kernel_message row.now.id sort) } }
+        requires used { in_use self.old.modules row.now.domain ≡ true }
+        ensures { self.new ≡ record self.old {
+          running = Some (first_running row.now.domain);
+          hand = Some (kernel_message row.now.id sort);
+        } }
     {
         self.running = Some(first_running(row.domain));
         self.mail.hold(kernel_message(row.id, sort));
     }
 
     /// The receiver of the first message that waits runs with it in hand, from before its first unit.
-    #[tactic(auto, using(crate::proofs::Receivers::front_received, crate::proofs::Seats::loaded_row))]
+    #[tactic(auto, using(crate::proofs::Receivers::front_received, crate::proofs::Seats::loaded_row, crate::proofs::Seats::seat_used))]
     fn take_front(&mut self) -> Option<ModuleRow>
         requires outside { self.old.running ≡ None }
         ensures none { (result ≡ None) ↔ (front self.old.queues ≡ None) }
         ensures same { result ≡ None → self.new ≡ self.old }
-        ensures receiver { IfSome (front self.old.queues) (λ m. result ≡ option_map row_of (module_named self.old.modules m.to)) }
+        ensures receiver { IfSome (front self.old.queues)
+            (λ m. result ≡ option_map row_of (module_named self.old.modules m.to)) }
         ensures there { IfSome result (λ row. IfSome (front self.old.queues)
             (λ m. module_at self.old.modules row.domain ≡ module_named self.old.modules m.to)) }
         ensures within { IfSome result (λ row. row.domain < domain_count) }
@@ -212,7 +225,8 @@ impl Kernel {
         requires hand { IsSome self.old.hand }
         requires room { length lines.old < turn_lines }
         ensures kernel { IfSome self.old.hand
-            (λ m. self.new ≡ with_processor self.old (dispatched self.old.processor row.now.state m)) }
+            (λ m. self.new ≡ with_processor self.old
+            (dispatched self.old.processor row.now.state (constants_at self.old.modules row.now.domain) m)) }
         ensures lines { IfSome self.old.hand
             (λ m. lines.new ≡ lines.old ++ TraceLine.Run self.old.clock row.now.id m.sort m.from ∷ []) }
     {
@@ -225,22 +239,8 @@ impl Kernel {
             sort: message.sort,
             from: message.from,
         });
-        dispatch(&mut self.cpu, row.state, message);
-    }
-
-    /// Gives a domain a cleared block for so many bytes of state, and tells its address. A module that asks for no byte has none
-    /// and the address 0.
-    fn give_state(&mut self, domain: u8, size: u16) -> Option<u16>
-        requires { domain < domain_count }
-        ensures none { IfNone result (state_block self.old domain size ≡ None) }
-        ensures same { IfNone result (self.new ≡ self.old) }
-        ensures given { IfSome result (λ address. state_block self.old domain size ≡ Some (given_as self.new address)) }
-        ensures rest { IfSome result (λ address. self.new ≡ with_given self.old (given_as self.new address)) }
-    {
-        if size == 0 {
-            return Some(0);
-        }
-        self.give(domain, size)
+        let constants = self.mail.constants_at(row.domain);
+        dispatch(&mut self.cpu, row.state, constants, message);
     }
 }
 
@@ -260,15 +260,8 @@ fn kernel_message(to: u8, sort: u8) -> Msg<Parcel>
     ensures { result ≡ kernel_message to sort }
 {
     Msg {
-        to,
         from: KERNEL_SENDER,
-        sort,
-        byte: 0,
-        word: 0,
-        long: false,
-        len: 0,
-        load: None,
-        high: false,
+        ..empty_message(to, sort)
     }
 }
 

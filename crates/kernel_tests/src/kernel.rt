@@ -1,313 +1,160 @@
-//! Each kernel call with each answer but those on parcels, the turn calls, and what a kernel tells of itself.
+//! Each kernel call with each answer, the turn calls, and what a kernel tells of itself. The steps are told as `steps` says.
 
-ghost use Rattle.std.specs.Prelude.{◌≡◌, ◌<◌, [], IsSome};
-ghost use Rattle.avr_machine.specs.DataRead.{IsInMemory};
-ghost use Rattle.domain_model.specs.Units.{service_of};
-ghost use Rattle.module_image.specs.Contents.{FaceRules, IsModuleId};
-
-use arrayvec::ArrayVec;
-use domain_model::{FaultNote, Lines, Rule, Served, TraceLine};
-use kernel_call::{Admitted, Kernel};
-use module_image::Face;
+use crate::steps::check_steps;
 use std::test::Fail;
 
-/// The kernel calls by number.
-const MALLOC: u8 = 0;
+/// Module 1, with 8 bytes of state, and module 2, with none; a handler of module 1 runs.
+const GIVES: &str = "\
+load 1 8: 0
+load 2 0: 1
+begin 0: yes;0 run 1 0 0
+# What it asks for is cleared.
+put 208 7
+put dff 7
+call 0 c00: 0
+call 0 bf8: 208
+call 0 0: 0
+call 0 1: 0
+bytes 208 dff 18 19 5d 5e: 0 0 0 0 ff 10
+stores dff: yes
+stores e00: no
+";
 
-const FREE: u8 = 1;
+const FREES: &str = "\
+load 1 8: 0
+load 2 0: 1
+begin 0: yes;0 run 1 0 0
+put 200 9
+stores 200: yes
+call 1 201: owner 201
+# The state block goes like any other, and its module may not store there any more.
+call 1 200: 0
+call 1 200: owner 200
+stores 200: no
+bytes 200: 9
+";
 
-const CHANGE_OWN: u8 = 2;
+const HANDS_ON: &str = "\
+load 1 8: 0
+load 2 0: 1
+begin 0: yes;0 run 1 0 0
+call 2 200 1: 0
+stores 200: yes
+call 2 200 3: 1
+stores 200: yes
+call 2 200 2: 0
+stores 200: no
+call 2 200 1: owner 200
+call 2 200 2: owner 200
+call 2 200 3: owner 200
+";
 
-const POST_SHORT: u8 = 3;
+const TELLS: &str = "\
+wait 1 5
+load 1 8: 0
+load 2 0: 1
+begin 0: yes;65541 run 1 0 0
+call 9 1 2: 5
+call b 902 2: 1
+call 8 941 2: 0;65541 say 1 65
+";
 
-const SAY: u8 = 8;
+const POSTS: &str = "\
+load 1 8: 0
+load 2 0: 1
+begin 0: yes;0 run 1 0 0
+set 14 942
+set 12 1234
+call 3 3 9: 2
+10*call 3 2 9: 0
+call 3 2 9: 1
+set 10 ff01
+call 3 2 a: 0
+end: none
+# The high queue comes before the low one.
+next: 1;0 run 2 10 1
+bytes 100 101 102 103 104 105 106: a 1 2 0 42 34 12
+bytes 14 16 17 18 19: 0 0 1 0 0
+end: none
+next: 1;0 run 2 9 1
+bytes 100 101 102 103 104 105 106: 9 1 2 0 42 34 12
+bytes 14 16 17 18 19: 0 0 1 0 0
+end: none
+";
 
-const CLOCK: u8 = 9;
+const LEAVES: &str = "\
+load 1 8: 0
+load 2 0: 1
+begin 0: yes;0 run 1 0 0
+call 3 2 9: 0
+end: none
+finish 0: yes;0 run 1 1 0
+end: 1
+waiting: yes
+unload 0: yes
+waiting: no
+row 0: none
+row 1: 2 0 3
+load 1 8: 0
+row 0: 1 200 3
+";
 
-const MY_ID: u8 = 11;
-
-/// A module that provides nothing and subscribes to nothing.
-fn plain(id: u8) -> Face
-    requires { IsModuleId id }
-    ensures face { FaceRules result }
-    ensures nothing { result.provided.items ≡ [] }
-{
-    Face {
-        id,
-        provided: ArrayVec::new(),
-        subscribed: ArrayVec::new(),
-    }
-}
-
-/// Loads a module that asks for so many bytes of state; None in a handler.
-pub fn load(k: &mut Kernel, id: u8, state_size: u16) -> Option<Admitted>
-    requires { IsModuleId id }
-{
-    if k.running().is_some() {
-        return None;
-    }
-    Some(k.admit(&plain(id), state_size, 3, &[], &[], false))
-}
-
-/// Starts the first or the last handler of the module in a domain, where it can be started.
-pub fn start(k: &mut Kernel, d: u8, last: bool, lines: &mut Lines) -> bool {
-    if k.running().is_some() || k.module_at(d).is_none() {
-        return false;
-    }
-    lines.clear();
-    if last {
-        k.finish(d, lines);
-    } else {
-        k.begin(d, lines);
-    }
-    true
-}
-
-/// A kernel call with these words in R25:R24 and in R23:R22, and its answer in R25:R24.
-pub fn call(
-    k: &mut Kernel,
-    n: u8,
-    first: u16,
-    second: u16,
-    lines: &mut Lines,
-) -> Option<Result<u16, FaultNote>>
-    requires { IsSome (service_of n) }
-{
-    if k.running().is_none() {
-        return None;
-    }
-    let cpu = k.cpu_mut();
-    cpu.set_pair(24, first);
-    cpu.set_pair(22, second);
-    lines.clear();
-    match k.serve(n, lines) {
-        Served::Back => Some(Ok(k.cpu().pair(24))),
-        Served::Fault(note) => Some(Err(note)),
-    }
-}
-
-/// A refused block argument.
-pub fn refused(address: u16) -> Option<Result<u16, FaultNote>> {
-    Some(Err(FaultNote {
-        rule: Rule::Owner,
-        address,
-    }))
-}
-
-/// Puts a byte into the memory.
-pub fn put(k: &mut Kernel, a: u16, byte: u8)
-    requires { IsInMemory a }
-{
-    k.cpu_mut().set_ram(a, byte);
-}
-
-/// Puts a word into a pair of registers.
-pub fn set(k: &mut Kernel, d: u8, word: u16)
-    requires { d < 31 }
-{
-    k.cpu_mut().set_pair(d, word);
-}
-
-/// What stands at these addresses.
-pub fn bytes(k: &Kernel, addresses: [u16; 6]) -> [u8; 6] {
-    addresses.map(|a: u16| k.cpu().rd(a))
-}
-
-/// The end of a handler: the id of the module that ends; None outside a handler.
-pub fn end(k: &mut Kernel) -> Option<Option<u8>> {
-    if k.running().is_none() {
-        return None;
-    }
-    Some(k.end_handler())
-}
-
-/// Starts the handler of the next message, and tells its domain; None in a handler.
-pub fn next(k: &mut Kernel, lines: &mut Lines) -> Option<Option<u8>> {
-    if k.running().is_some() {
-        return None;
-    }
-    lines.clear();
-    Some(k.next_message(lines))
-}
-
-/// Takes the module in a domain out, where that can be done.
-pub fn unload(k: &mut Kernel, d: u8) -> bool {
-    if k.running().is_some() || k.module_at(d).is_none() {
-        return false;
-    }
-    k.purge(d);
-    true
-}
-
-/// The id, the state's address and the handler's unit of the module in a domain.
-fn row(k: &Kernel, d: u8) -> Option<(u8, u16, u16)> {
-    k.module_at(d).map(|row| (row.id, row.state, row.handler))
-}
-
-/// Whether the running domain may store; None outside a handler.
-fn may_store(k: &Kernel, a: u16) -> Option<bool> {
-    if k.running().is_none() {
-        return None;
-    }
-    Some(k.may_store(a))
-}
-
-/// Loads module 1, with 8 bytes of state, and module 2, with none, and starts the handler of the first.
-pub fn in_handler(k: &mut Kernel, lines: &mut Lines) -> bool {
-    let first = load(k, 1, 8) == Some(Admitted::Placed(0));
-    let second = load(k, 2, 0) == Some(Admitted::Placed(1));
-    first && second && start(k, 0, false, lines)
-}
+const ADMITS: &str = "\
+load 1 c01: room
+load 1 8: 0
+load 2 8: 1
+load 3 8: 2
+load 4 8: 3
+load 5 8: 4
+load 6 8: 5
+load 7 8: 6
+load 8 8: 7
+load 9 8: 8
+load a 8: 9
+load b 8: a
+load c 8: b
+load d 8: c
+load e 8: d
+load f 8: e
+load f 8: duplicate
+load 10 c00: domain
+unload 4: yes
+load 10 c00: room
+load 10 8: 4
+row 4: 10 220 3
+";
 
 #[test]
 fn gives_blocks(rt: HostRuntime) -> Result<(), Fail> {
-    let mut k = Kernel::new(rt.alloc())?;
-    let mut lines = Lines::new(rt.alloc())?;
-    assert!(rt; in_handler(&mut k, &mut lines));
-    put(&mut k, 0x0208, 7);
-    put(&mut k, 0x0DFF, 7);
-    for (size, address) in [(3072, 0), (3064, 0x0208), (0, 0), (1, 0)] {
-        assert_eq!(rt;
-            call(&mut k, MALLOC, size, 0, &mut lines),
-            Some(Ok(address)),
-            "{size}"
-        );
-    }
-    assert_eq!(rt;
-        bytes(&k, [0x0208, 0x0DFF, 24, 25, 0x5D, 0x5E]),
-        [0, 0, 0, 0, 0xFF, 0x10]
-    );
-    assert_eq!(rt; may_store(&k, 0x0DFF), Some(true));
-    assert_eq!(rt; may_store(&k, 0x0E00), Some(false));
-    Ok(())
+    check_steps(&rt, rt.alloc(), GIVES)
 }
 
 #[test]
 fn frees_blocks(rt: HostRuntime) -> Result<(), Fail> {
-    let mut k = Kernel::new(rt.alloc())?;
-    let mut lines = Lines::new(rt.alloc())?;
-    assert!(rt; in_handler(&mut k, &mut lines));
-    put(&mut k, 0x0200, 9);
-    assert_eq!(rt; may_store(&k, 0x0200), Some(true));
-    assert_eq!(rt; call(&mut k, FREE, 0x0201, 0, &mut lines), refused(0x0201));
-    // The state block goes like any other, and its module may not store there any more.
-    assert_eq!(rt; call(&mut k, FREE, 0x0200, 0, &mut lines), Some(Ok(0)));
-    assert_eq!(rt; call(&mut k, FREE, 0x0200, 0, &mut lines), refused(0x0200));
-    assert_eq!(rt; may_store(&k, 0x0200), Some(false));
-    assert_eq!(rt; bytes(&k, [0x0200; 6]), [9; 6]);
-    Ok(())
+    check_steps(&rt, rt.alloc(), FREES)
 }
 
 #[test]
 fn hands_blocks_on(rt: HostRuntime) -> Result<(), Fail> {
-    let mut k = Kernel::new(rt.alloc())?;
-    let mut lines = Lines::new(rt.alloc())?;
-    assert!(rt; in_handler(&mut k, &mut lines));
-    for (owner, answer, keeps) in [(1, 0, true), (3, 1, true), (2, 0, false)] {
-        assert_eq!(rt;
-            call(&mut k, CHANGE_OWN, 0x0200, owner, &mut lines),
-            Some(Ok(answer)),
-            "to {owner}"
-        );
-        assert_eq!(rt; may_store(&k, 0x0200), Some(keeps), "to {owner}");
-    }
-    for owner in [1, 2, 3] {
-        assert_eq!(rt;
-            call(&mut k, CHANGE_OWN, 0x0200, owner, &mut lines),
-            refused(0x0200),
-            "to {owner}"
-        );
-    }
-    Ok(())
+    check_steps(&rt, rt.alloc(), HANDS_ON)
 }
 
 #[test]
 fn tells_what_it_is_asked(rt: HostRuntime) -> Result<(), Fail> {
-    let mut k = Kernel::new(rt.alloc())?;
-    let mut lines = Lines::new(rt.alloc())?;
-    if k.clock() <= 65_541 {
-        k.set_clock(65_541);
-    }
-    assert!(rt; in_handler(&mut k, &mut lines));
-    assert_eq!(rt; call(&mut k, CLOCK, 1, 2, &mut lines), Some(Ok(5)));
-    assert_eq!(rt; call(&mut k, MY_ID, 0x0902, 2, &mut lines), Some(Ok(1)));
-    assert_eq!(rt; call(&mut k, SAY, 0x0941, 2, &mut lines), Some(Ok(0)));
-    match lines.items() {
-        [TraceLine::Say { time, id, byte }] => assert_eq!(rt; (*time, *id, *byte), (65_541, 1, 65)),
-        _ => assert!(rt; false, "one line"),
-    }
-    Ok(())
+    check_steps(&rt, rt.alloc(), TELLS)
 }
 
 #[test]
 fn posts_and_dispatches(rt: HostRuntime) -> Result<(), Fail> {
-    let mut k = Kernel::new(rt.alloc())?;
-    let mut lines = Lines::new(rt.alloc())?;
-    assert!(rt; in_handler(&mut k, &mut lines));
-    set(&mut k, 20, 0x0942);
-    set(&mut k, 18, 0x1234);
-    assert_eq!(rt; call(&mut k, POST_SHORT, 3, 9, &mut lines), Some(Ok(2)));
-    for i in 0..17 {
-        let answer = if i < 16 { 0 } else { 1 };
-        assert_eq!(rt;
-            call(&mut k, POST_SHORT, 2, 9, &mut lines),
-            Some(Ok(answer)),
-            "post {i}"
-        );
-    }
-    set(&mut k, 16, 0xFF01);
-    assert_eq!(rt; call(&mut k, POST_SHORT, 2, 10, &mut lines), Some(Ok(0)));
-    assert_eq!(rt; end(&mut k), Some(None));
-    // The high queue comes before the low one.
-    for sort in [10, 9] {
-        assert_eq!(rt; next(&mut k, &mut lines), Some(Some(1)), "type {sort}");
-        assert_eq!(rt;
-            bytes(&k, [0x0100, 0x0101, 0x0102, 0x0103, 0x0104, 0x0105]),
-            [sort, 1, 2, 0, 0x42, 0x34]
-        );
-        assert_eq!(rt;
-            bytes(&k, [0x0106, 20, 22, 23, 24, 25]),
-            [0x12, 0, 0, 1, 0, 0]
-        );
-        assert_eq!(rt; end(&mut k), Some(None));
-    }
-    Ok(())
+    check_steps(&rt, rt.alloc(), POSTS)
 }
 
 #[test]
 fn a_module_goes_with_its_messages(rt: HostRuntime) -> Result<(), Fail> {
-    let mut k = Kernel::new(rt.alloc())?;
-    let mut lines = Lines::new(rt.alloc())?;
-    assert!(rt; in_handler(&mut k, &mut lines));
-    assert_eq!(rt; call(&mut k, POST_SHORT, 2, 9, &mut lines), Some(Ok(0)));
-    assert_eq!(rt; end(&mut k), Some(None));
-    assert!(rt; start(&mut k, 0, true, &mut lines));
-    assert_eq!(rt; end(&mut k), Some(Some(1)));
-    assert!(rt; k.has_message());
-    assert!(rt; unload(&mut k, 0));
-    assert!(rt; !k.has_message());
-    assert_eq!(rt; (row(&k, 0), row(&k, 1)), (None, Some((2, 0, 3))));
-    assert_eq!(rt; load(&mut k, 1, 8), Some(Admitted::Placed(0)));
-    assert_eq!(rt; row(&k, 0), Some((1, 0x0200, 3)));
-    Ok(())
+    check_steps(&rt, rt.alloc(), LEAVES)
 }
 
 #[test]
 fn admits_by_the_first_refusal(rt: HostRuntime) -> Result<(), Fail> {
-    let mut k = Kernel::new(rt.alloc())?;
-    assert_eq!(rt; load(&mut k, 1, 3073), Some(Admitted::Room));
-    for id in 1..16 {
-        assert_eq!(rt;
-            load(&mut k, id, 8),
-            Some(Admitted::Placed(id - 1)),
-            "module {id}"
-        );
-    }
-    assert_eq!(rt; load(&mut k, 15, 8), Some(Admitted::Duplicate));
-    assert_eq!(rt; load(&mut k, 16, 3072), Some(Admitted::Domain));
-    assert!(rt; unload(&mut k, 4));
-    assert_eq!(rt; load(&mut k, 16, 3072), Some(Admitted::Room));
-    assert_eq!(rt; load(&mut k, 16, 8), Some(Admitted::Placed(4)));
-    assert_eq!(rt; row(&k, 4), Some((16, 0x0220, 3)));
-    Ok(())
+    check_steps(&rt, rt.alloc(), ADMITS)
 }

@@ -1,201 +1,136 @@
-//! Blocks that go with messages, packets by radio, and dumps.
+//! Blocks that go with messages, packets by radio, and dumps. The steps are told as `steps` says.
 
-ghost use Rattle.std.specs.Prelude.{◌≤◌, length};
-ghost use Rattle.mote_layout.specs.Limits.{payload_limit};
-
-use crate::kernel::{bytes, call, end, in_handler, next, put, refused, set, start, unload};
-use domain_model::{FaultNote, Lines, TraceLine, Why};
-use kernel_call::Kernel;
+use crate::steps::check_steps;
 use std::test::Fail;
 
-/// The kernel calls by number.
-const MALLOC: u8 = 0;
+const TAKEN: &str = "\
+load 1 8: 0
+load 2 0: 1
+begin 0: yes;0 run 1 0 0
+put 200 aa
+# One byte more than the block has, and a block that isn't the caller's.
+set 14 9
+set 12 200
+call 4 2 9: owner 200
+set 14 0
+set 12 208
+call 4 2 9: owner 208
+set 14 8
+set 12 200
+call 4 3 9: 2
+dump:;0 dump;d module 1 0 0200;d module 2 1 0000;d block 0200 8 1;d end
+call 4 2 9: 0
+dump:;0 dump;d module 1 0 0200;d module 2 1 0000;d block 0200 8 k;d low 1 2 9 0200;d end
+call 4 2 9: owner 200
+# Nothing is in hand for the sender.
+call 5 5: 0
+end: none
+next: 1;0 run 2 9 1
+bytes 103 107 108 109 10a 200: 1 8 0 0 2 aa
+call 5 5: 200
+call 5 5: 0
+end: none
+dump:;0 dump;d module 1 0 0200;d module 2 1 0000;d block 0200 8 2;d end
+";
 
-const POST_LONG: u8 = 4;
+const REFUSED: &str = "\
+load 1 8: 0
+load 2 0: 1
+begin 0: yes;0 run 1 0 0
+10*radio 2:;0 queued 2 7
+set 14 8
+set 12 200
+call 4 2 9: 1
+dump:;0 dump;d module 1 0 0200;d module 2 1 0000;d block 0200 8 1;\
+d low 255 2 7 0000;d low 255 2 7 0000;d low 255 2 7 0000;d low 255 2 7 0000;\
+d low 255 2 7 0000;d low 255 2 7 0000;d low 255 2 7 0000;d low 255 2 7 0000;\
+d low 255 2 7 0000;d low 255 2 7 0000;d low 255 2 7 0000;d low 255 2 7 0000;\
+d low 255 2 7 0000;d low 255 2 7 0000;d low 255 2 7 0000;d low 255 2 7 0000;d end
+";
 
-const TAKE: u8 = 5;
+const PACKETS: &str = "\
+radio 1:;0 drop module 1 7
+load 1 8: 0
+load 2 0: 1
+begin 0: yes;0 run 1 0 0
+put 208 9
+put 20a 9
+radio 2 aa bb:;0 queued 2 7
+bytes 208 209 20a 20b 20c 20d: aa bb 0 0 0 0
+# The heap is full, and then the queue as well.
+call 0 bf0: 210
+radio 2 1:;0 drop room 2 7
+f*radio 1:;0 queued 1 7
+radio 2 1:;0 drop queue 2 7
+end: none
+next: 1;0 run 2 7 255
+bytes 100 101 103 107 109 10a: 7 ff 1 2 8 2
+";
 
-const SEND: u8 = 10;
+const GO: &str = "\
+load 1 8: 0
+load 2 0: 1
+begin 0: yes;0 run 1 0 0
+radio 2 1 2 3:;0 queued 2 7
+radio 2 1 2 3:;0 queued 2 7
+radio 1 1 2 3:;0 queued 1 7
+end: none
+next: 1;0 run 2 7 255
+dump:;0 dump;d module 1 0 0200;d module 2 1 0000;d block 0200 8 1;d block 0208 8 k;d block 0210 8 k;d block 0218 8 k;\
+d low 255 2 7 0210;d low 255 1 7 0218;d end
+# Untaken at the handler's end.
+end: none
+dump:;0 dump;d module 1 0 0200;d module 2 1 0000;d block 0200 8 1;d block 0210 8 k;d block 0218 8 k;\
+d low 255 2 7 0210;d low 255 1 7 0218;d end
+unload 1: yes
+dump:;0 dump;d module 1 0 0200;d block 0200 8 1;d block 0218 8 k;d low 255 1 7 0218;d end
+unload 0: yes
+dump:;0 dump;d end
+";
 
-/// Posts so many bytes of the block at an address to a module, by the low queue.
-fn post(
-    k: &mut Kernel,
-    to: u16,
-    address: u16,
-    len: u16,
-    lines: &mut Lines,
-) -> Option<Result<u16, FaultNote>> {
-    set(k, 20, len);
-    set(k, 18, address);
-    call(k, POST_LONG, to, 9, lines)
-}
-
-/// A packet comes, and whether it waits: None where its line tells so.
-fn hear(k: &mut Kernel, to: u8, packet: &[u8], lines: &mut Lines) -> Option<Why>
-    requires { length packet.now ≤ payload_limit }
-{
-    lines.clear();
-    k.radio(to, 7, packet, lines);
-    match lines.items() {
-        [TraceLine::Dropped { why, .. }] => Some(*why),
-        _ => None,
-    }
-}
-
-/// How many lines a dump of the kernel's has that tell of modules, of the kernel's blocks, of blocks of modules and of messages.
-fn dumped(k: &Kernel, lines: &mut Lines) -> (usize, usize, usize, usize) {
-    lines.clear();
-    k.dump(lines);
-    let modules = lines
-        .items()
-        .iter()
-        .filter(|line: &&TraceLine| matches!(**line, TraceLine::DumpModule { .. }))
-        .count();
-    let kept = lines
-        .items()
-        .iter()
-        .filter(|line: &&TraceLine| matches!(**line, TraceLine::DumpBlock { owner: None, .. }))
-        .count();
-    let owned = lines
-        .items()
-        .iter()
-        .filter(|line: &&TraceLine| matches!(**line, TraceLine::DumpBlock { owner: Some(_), .. }))
-        .count();
-    let messages = lines
-        .items()
-        .iter()
-        .filter(|line: &&TraceLine| matches!(**line, TraceLine::DumpMsg { .. }))
-        .count();
-    (modules, kept, owned, messages)
-}
+const SENDS: &str = "\
+load 1 8: 0
+load 2 0: 1
+begin 0: yes;0 run 1 0 0
+call 0 68: 208
+put 208 aa
+set 12 208
+set 14 60
+call a 304 5: 0;0 send 1 772 5 aa000000000000000000000000000000000000000000000000000000000000\
+    0000000000000000000000000000000000000000000000000000000000000000000000000000000000000000000000000000000000000000000000000000000000
+set 14 61
+call a 304 5: 1
+set 14 68
+call a 304 5: 1
+set 14 2
+call a 304 5: 0;0 send 1 772 5 aa00
+set 14 69
+call a 304 5: owner 208
+begin 0
+finish 0
+";
 
 #[test]
 fn a_posted_block_is_taken(rt: HostRuntime) -> Result<(), Fail> {
-    let mut k = Kernel::new(rt.alloc())?;
-    let mut lines = Lines::new(rt.alloc())?;
-    assert!(rt; in_handler(&mut k, &mut lines));
-    put(&mut k, 0x0200, 0xAA);
-    // One byte more than the block has, and a block that isn't the caller's.
-    assert_eq!(rt; post(&mut k, 2, 0x0200, 9, &mut lines), refused(0x0200));
-    assert_eq!(rt; post(&mut k, 2, 0x0208, 0, &mut lines), refused(0x0208));
-    assert_eq!(rt; post(&mut k, 3, 0x0200, 8, &mut lines), Some(Ok(2)));
-    assert_eq!(rt; dumped(&k, &mut lines), (2, 0, 1, 0));
-    assert_eq!(rt; post(&mut k, 2, 0x0200, 8, &mut lines), Some(Ok(0)));
-    assert_eq!(rt; dumped(&k, &mut lines), (2, 1, 0, 1));
-    assert_eq!(rt; post(&mut k, 2, 0x0200, 8, &mut lines), refused(0x0200));
-    // Nothing is in hand for the sender.
-    assert_eq!(rt; call(&mut k, TAKE, 5, 0, &mut lines), Some(Ok(0)));
-    assert_eq!(rt; end(&mut k), Some(None));
-    assert_eq!(rt; next(&mut k, &mut lines), Some(Some(1)));
-    assert_eq!(rt;
-        bytes(&k, [0x0103, 0x0107, 0x0108, 0x0109, 0x010A, 0x0200]),
-        [1, 8, 0, 0x00, 0x02, 0xAA]
-    );
-    assert_eq!(rt; call(&mut k, TAKE, 5, 0, &mut lines), Some(Ok(0x0200)));
-    assert_eq!(rt; call(&mut k, TAKE, 5, 0, &mut lines), Some(Ok(0)));
-    assert_eq!(rt; end(&mut k), Some(None));
-    assert_eq!(rt; dumped(&k, &mut lines), (2, 0, 1, 0));
-    Ok(())
+    check_steps(&rt, rt.alloc(), TAKEN)
 }
 
 #[test]
 fn a_refused_post_leaves_the_block(rt: HostRuntime) -> Result<(), Fail> {
-    let mut k = Kernel::new(rt.alloc())?;
-    let mut lines = Lines::new(rt.alloc())?;
-    assert!(rt; in_handler(&mut k, &mut lines));
-    for _ in 0..16 {
-        assert_eq!(rt; hear(&mut k, 2, &[], &mut lines), None);
-    }
-    assert_eq!(rt; post(&mut k, 2, 0x0200, 8, &mut lines), Some(Ok(1)));
-    assert_eq!(rt; dumped(&k, &mut lines), (2, 0, 1, 16));
-    Ok(())
+    check_steps(&rt, rt.alloc(), REFUSED)
 }
 
 #[test]
 fn packets_wait_or_are_dropped(rt: HostRuntime) -> Result<(), Fail> {
-    let mut k = Kernel::new(rt.alloc())?;
-    let mut lines = Lines::new(rt.alloc())?;
-    assert_eq!(rt; hear(&mut k, 1, &[], &mut lines), Some(Why::Module));
-    assert!(rt; in_handler(&mut k, &mut lines));
-    put(&mut k, 0x0208, 9);
-    put(&mut k, 0x020A, 9);
-    assert_eq!(rt; hear(&mut k, 2, &[0xAA, 0xBB], &mut lines), None);
-    assert_eq!(rt;
-        bytes(&k, [0x0208, 0x0209, 0x020A, 0x020B, 0x020C, 0x020D]),
-        [0xAA, 0xBB, 0, 0, 0, 0]
-    );
-    // The heap is full, and then the queue as well.
-    assert_eq!(rt; call(&mut k, MALLOC, 3056, 0, &mut lines), Some(Ok(0x0210)));
-    assert_eq!(rt; hear(&mut k, 2, &[1], &mut lines), Some(Why::Room));
-    for _ in 0..15 {
-        assert_eq!(rt; hear(&mut k, 1, &[], &mut lines), None);
-    }
-    assert_eq!(rt; hear(&mut k, 2, &[1], &mut lines), Some(Why::Queue));
-    assert_eq!(rt; end(&mut k), Some(None));
-    assert_eq!(rt; next(&mut k, &mut lines), Some(Some(1)));
-    assert_eq!(rt;
-        bytes(&k, [0x0100, 0x0101, 0x0103, 0x0107, 0x0109, 0x010A]),
-        [7, 255, 1, 2, 0x08, 0x02]
-    );
-    Ok(())
+    check_steps(&rt, rt.alloc(), PACKETS)
 }
 
 #[test]
 fn payloads_go_with_the_handler_and_the_module(rt: HostRuntime) -> Result<(), Fail> {
-    let mut k = Kernel::new(rt.alloc())?;
-    let mut lines = Lines::new(rt.alloc())?;
-    assert!(rt; in_handler(&mut k, &mut lines));
-    for to in [2, 2, 1] {
-        assert_eq!(rt; hear(&mut k, to, &[1, 2, 3], &mut lines), None);
-    }
-    assert_eq!(rt; end(&mut k), Some(None));
-    assert_eq!(rt; next(&mut k, &mut lines), Some(Some(1)));
-    assert_eq!(rt; dumped(&k, &mut lines), (2, 3, 1, 2));
-    // Untaken at the handler's end.
-    assert_eq!(rt; end(&mut k), Some(None));
-    assert_eq!(rt; dumped(&k, &mut lines), (2, 2, 1, 2));
-    assert!(rt; unload(&mut k, 1));
-    assert_eq!(rt; dumped(&k, &mut lines), (1, 1, 1, 1));
-    assert!(rt; unload(&mut k, 0));
-    assert_eq!(rt; dumped(&k, &mut lines), (0, 0, 0, 0));
-    Ok(())
+    check_steps(&rt, rt.alloc(), GO)
 }
 
 #[test]
 fn sends_what_a_packet_holds(rt: HostRuntime) -> Result<(), Fail> {
-    let mut k = Kernel::new(rt.alloc())?;
-    let mut lines = Lines::new(rt.alloc())?;
-    assert!(rt; in_handler(&mut k, &mut lines));
-    assert_eq!(rt; call(&mut k, MALLOC, 104, 0, &mut lines), Some(Ok(0x0208)));
-    put(&mut k, 0x0208, 0xAA);
-    for (len, answer) in [(96, 0), (97, 1), (104, 1)] {
-        set(&mut k, 20, len);
-        set(&mut k, 18, 0x0208);
-        assert_eq!(rt;
-            call(&mut k, SEND, 0x0304, 5, &mut lines),
-            Some(Ok(answer)),
-            "{len}"
-        );
-    }
-    set(&mut k, 20, 2);
-    assert_eq!(rt; call(&mut k, SEND, 0x0304, 5, &mut lines), Some(Ok(0)));
-    match lines.items() {
-        [
-            TraceLine::Send {
-                time,
-                id,
-                dest,
-                sort,
-                bytes,
-            },
-        ] => {
-            assert_eq!(rt; (*time, *id, *dest, *sort), (0, 1, 0x0304, 5));
-            assert_eq!(rt; bytes.as_slice(), [0xAA, 0].as_slice());
-        }
-        _ => assert!(rt; false, "one line"),
-    }
-    set(&mut k, 20, 105);
-    assert_eq!(rt; call(&mut k, SEND, 0x0304, 5, &mut lines), refused(0x0208));
-    assert!(rt; !start(&mut k, 0, true, &mut lines));
-    Ok(())
+    check_steps(&rt, rt.alloc(), SENDS)
 }

@@ -25,6 +25,19 @@ fn file_of(
     Ok(file)
 }
 
+/// The file of a module of the first version, entered at its first word.
+fn module_of(
+    rt: &impl Abort,
+    alloc: Global,
+    flags: u8,
+    code: &[u16],
+) -> Result<Vec<u8>, AllocError> {
+    let mut fields = *b"SOSM\x01\x01\x00\x00\x00\x00\x00\x00\x00\x00\x00";
+    fields[6] = flags;
+    fields[13] = u8::try_from(code.len()).expect(rt, "few words");
+    file_of(alloc, &fields, code, &[])
+}
+
 /// The file of the rewritten image.
 fn rewritten(alloc: Global, file: &[u8]) -> Option<Vec<u8>> {
     let image = parse(file).ok()?;
@@ -54,35 +67,54 @@ fn a_guarded_store(rt: HostRuntime) -> Result<(), Fail> {
 }
 
 #[test]
-fn a_skip_over_a_guarded_store(rt: HostRuntime) -> Result<(), Fail> {
-    let fields = *b"SOSM\x01\x02\x00\x00\x00\x00\x00\x00\x00\x03\x00";
-    let file = file_of(rt.alloc(), &fields, &[0xFF00, 0x931C, 0x9508], &[])?;
-    let fields = *b"SOSM\x01\x02\x01\x00\x00\x00\x00\x00\x00\x08\x00";
-    let words = [
-        0xFF00, 0xC001, 0xC003, 0x940E, 0xF000, 0x931C, 0x940C, 0xF096,
+fn templates_in_their_shapes(rt: HostRuntime) -> Result<(), Fail> {
+    // Original words and rewritten ones: a loop, a branch ahead, skips over a store, a word, two words, a branch that becomes
+    // short in the round before, and a jump, a branch before a jump, a local call.
+    let rows: [(&[u16], &[u16]); 9] = [
+        (
+            &[0xE00A, 0x950A, 0xF7F1, 0x9508],
+            &[0xE00A, 0x950A, 0xF7F1, 0x940C, 0xF096],
+        ),
+        (
+            &[0x3020, 0xF009, 0x9508, 0x9508],
+            &[0x3020, 0xF011, 0x940C, 0xF096, 0x940C, 0xF096],
+        ),
+        (
+            &[0xFF00, 0x931C, 0x9508],
+            &[
+                0xFF00, 0xC001, 0xC003, 0x940E, 0xF000, 0x931C, 0x940C, 0xF096,
+            ],
+        ),
+        (&[0xFF00, 0x0000, 0x9508], &[0xFF00, 0x0000, 0x940C, 0xF096]),
+        (
+            &[0xFF00, 0x940E, 0xF108, 0x9508],
+            &[0xFF00, 0x940E, 0xF108, 0x940C, 0xF096],
+        ),
+        (
+            &[0xFF00, 0xF001, 0x9508, 0x9508],
+            &[0xFF00, 0xF001, 0x940C, 0xF096, 0x940C, 0xF096],
+        ),
+        (
+            &[0xFF00, 0xC000, 0x9508, 0x9508],
+            &[
+                0xFF00, 0xC001, 0xC001, 0xC000, 0x940C, 0xF096, 0x940C, 0xF096,
+            ],
+        ),
+        (
+            &[0xF009, 0xC000, 0x9508],
+            &[0xF409, 0xC001, 0xC000, 0x940C, 0xF096],
+        ),
+        (
+            &[0xD001, 0x9508, 0x9508],
+            &[0x940E, 0xF094, 0xC002, 0x940C, 0xF096, 0x940C, 0xF096],
+        ),
     ];
-    let expected = file_of(rt.alloc(), &fields, &words, &[])?;
-    check(&rt, rt.alloc(), &file, &expected)
-}
-
-#[test]
-fn a_branch_back(rt: HostRuntime) -> Result<(), Fail> {
-    let fields = *b"SOSM\x01\x01\x00\x00\x00\x00\x00\x00\x00\x04\x00";
-    let file = file_of(rt.alloc(), &fields, &[0xE00A, 0x950A, 0xF7F1, 0x9508], &[])?;
-    let fields = *b"SOSM\x01\x01\x01\x00\x00\x00\x00\x00\x00\x05\x00";
-    let words = [0xE00A, 0x950A, 0xF7F1, 0x940C, 0xF096];
-    let expected = file_of(rt.alloc(), &fields, &words, &[])?;
-    check(&rt, rt.alloc(), &file, &expected)
-}
-
-#[test]
-fn a_branch_ahead(rt: HostRuntime) -> Result<(), Fail> {
-    let fields = *b"SOSM\x01\x01\x00\x00\x00\x00\x00\x00\x00\x04\x00";
-    let file = file_of(rt.alloc(), &fields, &[0x3020, 0xF009, 0x9508, 0x9508], &[])?;
-    let fields = *b"SOSM\x01\x01\x01\x00\x00\x00\x00\x00\x00\x06\x00";
-    let words = [0x3020, 0xF011, 0x940C, 0xF096, 0x940C, 0xF096];
-    let expected = file_of(rt.alloc(), &fields, &words, &[])?;
-    check(&rt, rt.alloc(), &file, &expected)
+    for (code, expected) in &rows {
+        let file = module_of(&rt, rt.alloc(), 0, code)?;
+        let rewritten = module_of(&rt, rt.alloc(), 1, expected)?;
+        check(&rt, rt.alloc(), &file, &rewritten)?;
+    }
+    Ok(())
 }
 
 #[test]
@@ -107,13 +139,17 @@ fn entries_and_constants(rt: HostRuntime) -> Result<(), Fail> {
 }
 
 #[test]
-fn code_without_units(rt: HostRuntime) {
-    let file = *b"SOSM\x01\x01\x00\x00\x00\x00\x00\x00\x00\x02\x00\x09\x94\x08\x95";
+fn code_without_units(rt: HostRuntime) -> Result<(), Fail> {
+    // Of a rewritten image the code is not looked at.
     let refused = RewriteError::Code(CodeError::Refused(0, 1));
+    let file = module_of(&rt, rt.alloc(), 0, &[0x9409, 0x9508])?;
     assert_eq!(rt; refusal(rt.alloc(), &file), Some(refused));
+    let file = module_of(&rt, rt.alloc(), 1, &[0x9409, 0x9508])?;
+    assert_eq!(rt; refusal(rt.alloc(), &file), Some(RewriteError::Already));
     let file = *b"SOSM\x01\x01\x00\x00\x00\x01\x00\x00\x00\x01\x00\x08\x95";
     let refused = RewriteError::Code(CodeError::Entry(1));
     assert_eq!(rt; refusal(rt.alloc(), &file), Some(refused));
+    Ok(())
 }
 
 #[test]

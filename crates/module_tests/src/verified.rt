@@ -125,6 +125,159 @@ fn the_first_condition_is_told(rt: HostRuntime) -> Result<(), Fail> {
     )
 }
 
+/// What comes where a word is left out, doubled, or replaced by a NOP.
+type Spoilt = (
+    Result<u16, VerifyError>,
+    Result<u16, VerifyError>,
+    Result<u16, VerifyError>,
+);
+
+/// A template with other words in place of one, before two NOPs and a return.
+fn with_words(
+    alloc: Global,
+    template: &[u16],
+    index: usize,
+    words: &[u16],
+) -> Result<Vec<u16>, NoMemory> {
+    let mut spoilt = Vec::new(alloc);
+    for (i, word) in template.iter().enumerate() {
+        if i == index {
+            spoilt.extend_from_slice(words)?;
+        } else {
+            spoilt.push(*word)?;
+        }
+    }
+    spoilt.extend_from_slice(&[0x0000, 0x0000, 0x940C, 0xF096])?;
+    Ok(spoilt)
+}
+
+/// Spoils each word of a template in turn.
+fn check_spoilt(
+    rt: &impl Abort,
+    alloc: Global,
+    sealed: bool,
+    template: &[u16],
+    rows: &[Spoilt],
+) -> Result<(), Fail> {
+    for (i, (word, expected)) in template.iter().zip(rows).enumerate() {
+        let (left_out, doubled, blank) = *expected;
+        let words = with_words(alloc, template, i, &[])?;
+        check(rt, alloc, &words, &[0], sealed, left_out)?;
+        let words = with_words(alloc, template, i, &[*word, *word])?;
+        check(rt, alloc, &words, &[0], sealed, doubled)?;
+        let words = with_words(alloc, template, i, &[0x0000])?;
+        check(rt, alloc, &words, &[0], sealed, blank)?;
+    }
+    Ok(())
+}
+
+#[test]
+fn a_guarded_instruction_is_spoilt(rt: HostRuntime) -> Result<(), Fail> {
+    let alloc = rt.alloc();
+    let rows = [
+        (Err(Guard(1)), Err(Word(0)), Err(Guard(2))),
+        (Err(Word(0)), Err(Guard(0)), Err(Word(0))),
+        (Err(Guard(0)), Err(Guard(3)), Err(Guard(0))),
+    ];
+    check_spoilt(&rt, alloc, false, &[0x940E, 0xF000, 0x930C], &rows)?;
+    check_spoilt(&rt, alloc, true, &[0x940E, 0xF381, 0x918C], &rows)?;
+    check_spoilt(&rt, alloc, false, &[0x940E, 0xF091, 0x920F], &rows)?;
+    check_spoilt(&rt, alloc, false, &[0x940E, 0xF092, 0x900F], &rows)
+}
+
+#[test]
+fn a_group_is_spoilt(rt: HostRuntime) -> Result<(), Fail> {
+    let alloc = rt.alloc();
+    let rows = [
+        (Err(Guard(1)), Err(Word(0)), Err(Guard(2))),
+        (Err(Word(0)), Err(Guard(0)), Err(Word(0))),
+        (Err(Guard(0)), Err(Guard(0)), Err(Guard(0))),
+        // without the write of SREG it is the other group
+        (Ok(4), Err(Guard(0)), Err(Guard(0))),
+        (Err(Guard(0)), Err(Guard(5)), Err(Guard(0))),
+    ];
+    let group = [0x940E, 0xF093, 0xBFDE, 0xBE0F, 0xBFCD];
+    check_spoilt(&rt, alloc, false, &group, &rows)?;
+    let rows = [
+        (Err(Guard(1)), Err(Word(0)), Err(Guard(2))),
+        (Err(Word(0)), Err(Guard(0)), Err(Word(0))),
+        (Err(Guard(0)), Err(Guard(0)), Err(Guard(0))),
+        (Err(Guard(0)), Err(Guard(4)), Err(Guard(0))),
+    ];
+    check_spoilt(&rt, alloc, false, &[0x940E, 0xF093, 0xBFDE, 0xBFCD], &rows)
+}
+
+#[test]
+fn an_entry_is_spoilt(rt: HostRuntime) -> Result<(), Fail> {
+    let alloc = rt.alloc();
+    // the entry's address alone is a branch
+    let rows = [
+        (Err(Target(0)), Err(Word(0)), Err(Target(1))),
+        (Err(Word(0)), Err(Target(2)), Err(Word(0))),
+    ];
+    check_spoilt(&rt, alloc, false, &[0x940E, 0xF097], &rows)?;
+    check_spoilt(&rt, alloc, false, &[0x940E, 0xF108], &rows)?;
+    check_spoilt(&rt, alloc, false, &[0x940E, 0xF200], &rows)?;
+    check_spoilt(&rt, alloc, false, &[0x940E, 0xF095], &rows)?;
+    check_spoilt(&rt, alloc, false, &[0x940C, 0xF096], &rows)
+}
+
+#[test]
+fn a_template_with_a_jump_is_spoilt(rt: HostRuntime) -> Result<(), Fail> {
+    let alloc = rt.alloc();
+    let skip = [
+        (Ok(5), Err(Guard(0)), Ok(6)),
+        (Err(Guard(0)), Ok(5), Ok(6)),
+        (Err(Guard(0)), Ok(5), Err(Guard(0))),
+    ];
+    check_spoilt(&rt, alloc, false, &[0xFF00, 0xC001, 0xC001], &skip)?;
+    let branch = [(Ok(4), Err(Target(0)), Ok(5)), (Ok(4), Ok(5), Ok(5))];
+    check_spoilt(&rt, alloc, false, &[0xF009, 0xC001], &branch)?;
+    let call = [
+        (Err(Target(0)), Err(Word(0)), Err(Target(1))),
+        (Err(Word(0)), Err(Guard(0)), Err(Word(0))),
+        (Err(Guard(0)), Ok(5), Err(Guard(0))),
+    ];
+    check_spoilt(&rt, alloc, false, &[0x940E, 0xF094, 0xC001], &call)?;
+    let single = [(Ok(3), Ok(5), Ok(4))];
+    check_spoilt(&rt, alloc, false, &[0xC001], &single)?;
+    check_spoilt(&rt, alloc, false, &[0xF009], &single)?;
+    check_spoilt(&rt, alloc, false, &[0xFF00], &single)
+}
+
+#[test]
+fn a_target_one_word_off_is_told(rt: HostRuntime) -> Result<(), Fail> {
+    let alloc = rt.alloc();
+    check_rows(
+        &rt,
+        alloc,
+        false,
+        &[
+            (&[0xC002, 0x0000, 0x0000, 0x940C, 0xF096], Ok(4)),
+            (&[0xC003, 0x0000, 0x0000, 0x940C, 0xF096], Err(Target(0))),
+            (&[0xF011, 0x0000, 0x0000, 0x940C, 0xF096], Ok(4)),
+            (&[0xF019, 0x0000, 0x0000, 0x940C, 0xF096], Err(Target(0))),
+            (&[0xF009, 0xC002, 0x0000, 0x0000, 0x940C, 0xF096], Ok(4)),
+            (
+                &[0xF009, 0xC003, 0x0000, 0x0000, 0x940C, 0xF096],
+                Err(Target(1)),
+            ),
+            (
+                &[0x940E, 0xF094, 0xC002, 0x0000, 0x0000, 0x940C, 0xF096],
+                Ok(4),
+            ),
+            (
+                &[0x940E, 0xF094, 0xC003, 0x0000, 0x0000, 0x940C, 0xF096],
+                Err(Target(2)),
+            ),
+            (
+                &[0xFF00, 0xC001, 0xC000, 0x0000, 0x0000, 0x940C, 0xF096],
+                Err(Target(2)),
+            ),
+        ],
+    )
+}
+
 #[test]
 fn marks_are_starts(rt: HostRuntime) -> Result<(), Fail> {
     let alloc = rt.alloc();

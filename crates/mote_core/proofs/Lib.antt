@@ -1,6 +1,6 @@
 pub mod Agendas
+pub mod Clocks
 pub mod Closing
 pub mod Loading
 pub mod MoteLaws
-pub mod Prepared
 pub mod RowLaws

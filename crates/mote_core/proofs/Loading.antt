@@ -1,88 +1,135 @@
--- A load by the kernel's admission.
-use Rattle.std.proofs.Common.{◌≡◌, ◌<◌, ℕ, List, [], ◌∷◌, ◌++◌, Bool, true, false, Ok, Option, None, Some, refl, ◌∙◌, sym, ap, subst}
+-- A load by the loader, as the machine's.
+use Rattle.std.proofs.Common.{◌≡◌, ◌<◌, ℕ, List, [], ◌∷◌, ◌++◌, Bool, true, false, Result, Ok, Err, Option, None, Some, refl, ◌∙◌, sym, ap, subst, length}
+use Rattle.std.proofs.lemmas.Option.{none-some, same_Some}
 use Rattle.std.specs.Prelude.{IfSome}
 use Rattle.mote_layout.specs.Memory.{domain_count}
+use Rattle.unit_code.specs.Listing.{BankListing}
 use Rattle.domain_model.specs.declared.line.TraceLine.{TraceLine}
 use Rattle.domain_model.specs.declared.line.TraceLine.TheVariants as line
-use Rattle.domain_model.specs.Given.{Given}
+use Rattle.domain_model.specs.declared.refusal.Refusal.TheVariants as why
+use Rattle.domain_model.specs.Given.{Given, with_given}
 use Rattle.domain_model.specs.Modules.{free_domain, in_use, is_loaded, module_at}
-use Rattle.domain_model.specs.Prepared.{Module}
 use Rattle.domain_model.specs.State.{KernelState, RunnerState}
-use Rattle.domain_model.specs.Turn.{Moved, admitted, begun, init_to, load_given, load_in, load_new, load_prepared, loaded, refused, seated, state_block}
+use Rattle.domain_model.specs.Turn.{Moved, admitted, begun, constants_block, entered, init_to, load_beside, load_given, load_in, load_new, load_prepared, loaded, placed, seated, state_block}
 use Rattle.domain_model.proofs.BlockLaws.{free_domain_is_free}
-use Rattle.kernel_call.specs.Admission.{Admission, Newcomer, admission, admit_given, admit_in, admit_new, newcomer}
-use Rattle.kernel_call.specs.declared.admitted.Admitted.{Admitted}
-use Rattle.kernel_call.specs.declared.admitted.Admitted.TheVariants.{Placed, Duplicate, Domain, Room}
+use Rattle.kernel_call.specs.Admission.{admit_beside, admit_given, admit_in, admit_new}
 use Rattle.kernel_call.proofs.Seats.{pushed_there}
+use Rattle.mod_loader.specs.declared.refusal.LoadRefusal.{LoadRefusal}
+use Rattle.domain_model.specs.Good.{GoodImage, IsGoodImage}
+use Rattle.mod_loader.specs.Banks.{Banked, Readied, bank_of, code_of, prepared_of}
+use Rattle.mod_loader.specs.Loads.{Moving, brought, load_detail, load_kind, load_number, load_value, loading, newcomer_of}
 
 -- The module is in a domain: the load starts it.
-pub record IsPlaced (m : Module) (domain image : ℕ) (k : KernelState) (r : RunnerState) (new : KernelState) (end : Moved) : Type 0 where
+pub record IsPlaced (p : Readied) (domain : ℕ) (k : KernelState) (r : RunnerState) (new : KernelState) (end : Moved) : Type 0 where
+  pub banked : Banked
+  pub held : p ≡ Ok banked
+  pub state : ℕ
   pub given : Given
   pub within : domain < domain_count
-  pub kernel : new ≡ admitted k (seated m domain given) given
-  pub there : module_at (k.modules ++ seated m domain given ∷ []) domain ≡ Some (seated m domain given)
-  pub is : end ≡ loaded m domain given k r
+  pub kernel : new ≡ admitted k (seated banked.loadable domain state given) given
+  pub there : module_at (k.modules ++ seated banked.loadable domain state given ∷ []) domain ≡ Some (seated banked.loadable domain state given)
+  pub is : end ≡ loaded banked.loadable domain state given k r
+
+abbrev pub refused_line : LoadRefusal → ℕ → KernelState → TraceLine
+refused_line e image k = line.Refused k.clock image (load_number e) (load_kind e) (load_value e) (load_detail e)
 
 -- the load is refused, and changes nothing
-pub record IsRefused (number image : ℕ) (k : KernelState) (r : RunnerState) (new : KernelState) (end : Moved) : Type 0 where
+pub record IsRefused (e : LoadRefusal) (image : ℕ) (k : KernelState) (r : RunnerState) (new : KernelState) (end : Moved) : Type 0 where
   pub kernel : new ≡ k
-  pub is : end ≡ refused number image k r
+  pub is : end ≡ record { kernel = k; runner = r; lines = refused_line e image k ∷ [] }
 
-abbrev pub LoadsAs : Admitted → Module → ℕ → KernelState → RunnerState → KernelState → Moved → Type 0
-LoadsAs (Placed domain) m image k r new moved = IsPlaced m domain image k r new moved
-LoadsAs Duplicate m image k r new moved = IsRefused 4 image k r new moved
-LoadsAs Domain m image k r new moved = IsRefused 5 image k r new moved
-LoadsAs Room m image k r new moved = IsRefused 6 image k r new moved
+abbrev pub LoadsAs : Result ℕ LoadRefusal → Readied → ℕ → KernelState → RunnerState → KernelState → Moved → Type 0
+LoadsAs (Ok domain) p image k r new moved = IsPlaced p domain k r new moved
+LoadsAs (Err e) p image k r new moved = IsRefused e image k r new moved
 
-abbrev pub newcomer_of : Module → Newcomer
-newcomer_of m = newcomer m.face m.state_size m.handler m.entries
+module _ (image : ℕ) (k : KernelState) (r : RunnerState) where
+  abbrev Loads : Readied → Moving LoadRefusal → Moved → Type 0
+  Loads p m moved = LoadsAs m.answer p image k r m.kernel moved
 
-module _ (m : Module) (image : ℕ) (k : KernelState) (r : RunnerState) where
-  abbrev Loads : Admission → Moved → Type 0
-  Loads a moved = LoadsAs a.answer m image k r a.kernel moved
-
-  given_loads : (o : Option Given) (domain : ℕ) → domain < domain_count → in_use k.modules domain ≡ false → Loads (admit_given o (newcomer_of m) domain k) (load_given o m domain image k r)
-  given_loads None domain within free = record { kernel = refl; is = refl }
-  given_loads (Some g) domain within free = record {
+  beside_loads : (o : Option Given) (state : ℕ) (b : Banked) (domain : ℕ) → domain < domain_count → in_use k.modules domain ≡ false → Loads (Ok b) (brought (admit_beside o state (newcomer_of b.loadable) domain k)) (load_beside o state b.loadable domain image k r)
+  beside_loads None state b domain within free = record { kernel = refl; is = refl }
+  beside_loads (Some g) state b domain within free = record {
+    banked = b;
+    held = refl;
+    state = state;
     given = g;
     within = within;
     kernel = refl;
-    there = pushed_there k.modules (seated m domain g) free;
+    there = pushed_there k.modules (seated b.loadable domain state g) free;
     is = refl;
   }
 
-  in_loads : (o : Option ℕ) → free_domain k.modules ≡ o → Loads (admit_in o (newcomer_of m) k) (load_in o m image k r)
-  in_loads None e = record { kernel = refl; is = refl }
-  in_loads (Some domain) e =
+  given_loads : (o : Option Given) (b : Banked) (domain : ℕ) → domain < domain_count → in_use k.modules domain ≡ false → Loads (Ok b) (brought (admit_given o (newcomer_of b.loadable) domain k)) (load_given o b.loadable domain image k r)
+  given_loads None b domain within free = record { kernel = refl; is = refl }
+  given_loads (Some g) b domain within free = beside_loads (constants_block (with_given k g) b.loadable.constants) g.address b domain within free
+
+  in_loads : (o : Option ℕ) (b : Banked) → free_domain k.modules ≡ o → Loads (Ok b) (brought (admit_in o (newcomer_of b.loadable) k)) (load_in o b.loadable image k r)
+  in_loads None b e = record { kernel = refl; is = refl }
+  in_loads (Some domain) b e =
       let free = free_domain_is_free k.modules domain e in
-      given_loads (state_block k domain m.state_size) domain free.0 free.1
+      given_loads (state_block k domain b.loadable.state_size) b domain free.0 free.1
 
-  new_loads : (b : Bool) → Loads (admit_new b (newcomer_of m) k) (load_new b m image k r)
-  new_loads true = record { kernel = refl; is = refl }
-  new_loads false = in_loads (free_domain k.modules) refl
+  new_loads : (loaded_before : Bool) (b : Banked) → Loads (Ok b) (brought (admit_new loaded_before (newcomer_of b.loadable) k)) (load_new loaded_before b.loadable image k r)
+  new_loads true b = record { kernel = refl; is = refl }
+  new_loads false b = in_loads (free_domain k.modules) b refl
 
-  -- a load is what the admission answers
-  pub admission_loads : Loads (admission k (newcomer_of m)) (load_prepared (Ok m) image k r)
-  admission_loads = new_loads (is_loaded k.modules m.face.id)
+  -- a load is what the loader answers
+  pub loading_loads : (p : Readied) → Loads p (loading p k) (load_prepared (prepared_of p) image k r)
+  loading_loads (Ok b) = new_loads (is_loaded k.modules b.loadable.face.id) b
+  loading_loads (Err (why.Image e)) = record { kernel = refl; is = refl }
+  loading_loads (Err (why.Code e)) = record { kernel = refl; is = refl }
+  loading_loads (Err (why.Verify e)) = record { kernel = refl; is = refl }
 
--- The module was put into a domain.
-pub placing : (m : Module) (domain image : ℕ) (k : KernelState) (r : RunnerState) (new : KernelState) → Placed domain ≡ (admission k (newcomer_of m)).answer → new ≡ (admission k (newcomer_of m)).kernel → IsPlaced m domain image k r new (load_prepared (Ok m) image k r)
-placing m domain image k r new answer is =
-    let end : Moved = load_prepared (Ok m) image k r in
-    subst (λ (n : KernelState). IsPlaced m domain image k r n end) (sym is)
-    (subst (λ (a : Admitted). LoadsAs a m image k r (admission k (newcomer_of m)).kernel end) (sym answer) (admission_loads m image k r))
+  -- the same of an answer and a kernel that are those
+  pub as_loading : (p : Readied) (answer : Result ℕ LoadRefusal) (new : KernelState) → answer ≡ (loading p k).answer → new ≡ (loading p k).kernel → LoadsAs answer p image k r new (load_prepared (prepared_of p) image k r)
+  as_loading p answer new tells is =
+      let end : Moved = load_prepared (prepared_of p) image k r in
+      subst (λ (n : KernelState). LoadsAs answer p image k r n end) (sym is)
+      (subst (λ (a : Result ℕ LoadRefusal). LoadsAs a p image k r (loading p k).kernel end) (sym tells) (loading_loads p))
 
--- and it is the one there
-placed_there : (m : Module) (domain image : ℕ) (k : KernelState) (r : RunnerState) (new : KernelState) (end : Moved) (p : IsPlaced m domain image k r new end) → module_at new.modules domain ≡ Some (seated m domain p.given)
-placed_there m domain image k r new end p = ap (λ (n : KernelState). module_at n.modules domain) p.kernel ∙ p.there
+-- The module was put into a domain,
+pub placing : (image : ℕ) (k : KernelState) (r : RunnerState) (p : Readied) (domain : ℕ) (answer : Result ℕ LoadRefusal) (new : KernelState) → answer ≡ Ok domain → answer ≡ (loading p k).answer → new ≡ (loading p k).kernel → IsPlaced p domain k r new (load_prepared (prepared_of p) image k r)
+placing image k r p domain answer new ok tells is =
+    subst (λ (a : Result ℕ LoadRefusal). LoadsAs a p image k r new (load_prepared (prepared_of p) image k r)) ok (as_loading image k r p answer new tells is)
 
--- its first handler starts
-pub started_kernel : (m : Module) (domain image : ℕ) (k : KernelState) (r : RunnerState) (new : KernelState) (end : Moved) → IsPlaced m domain image k r new end → (after : KernelState) → IfSome (module_at new.modules domain) (λ x. after ≡ begun new x.domain x.state (init_to x.face.id)) → after ≡ end.kernel
-started_kernel m domain image k r new end p after starts =
-    let is = rw (placed_there m domain image k r new end p) at starts in
-    is ∙ ap (λ (n : KernelState). begun n domain p.given.address (init_to m.face.id)) p.kernel ∙ sym (ap (λ (e : Moved). e.kernel) p.is)
+-- or its load was refused.
+pub refusing : (image : ℕ) (k : KernelState) (r : RunnerState) (p : Readied) (e : LoadRefusal) (answer : Result ℕ LoadRefusal) (new : KernelState) → answer ≡ Err e → answer ≡ (loading p k).answer → new ≡ (loading p k).kernel → IsRefused e image k r new (load_prepared (prepared_of p) image k r)
+refusing image k r p e answer new err tells is =
+    subst (λ (a : Result ℕ LoadRefusal). LoadsAs a p image k r new (load_prepared (prepared_of p) image k r)) err (as_loading image k r p answer new tells is)
 
-pub started_lines : (m : Module) (domain image : ℕ) (k : KernelState) (r : RunnerState) (new : KernelState) (end : Moved) → IsPlaced m domain image k r new end → (lines : List TraceLine) → IfSome (module_at new.modules domain) (λ x. lines ≡ line.Load new.clock x.face.id x.domain x.state ∷ line.Run new.clock x.face.id 0 0 ∷ []) → lines ≡ end.lines
-started_lines m domain image k r new end p lines tells =
-    let is = rw (placed_there m domain image k r new end p) at tells in
-    is ∙ ap (λ (n : KernelState). line.Load n.clock m.face.id domain p.given.address ∷ line.Run n.clock m.face.id 0 0 ∷ []) p.kernel ∙ sym (ap (λ (e : Moved). e.lines) p.is)
+-- The module that was put into a domain is the one there,
+pub placed_there : {p : Readied} {domain : ℕ} {k : KernelState} {r : RunnerState} {new : KernelState} {end : Moved} (i : IsPlaced p domain k r new end) → module_at new.modules domain ≡ Some (seated i.banked.loadable domain i.state i.given)
+placed_there {domain = domain} i = ap (λ (n : KernelState). module_at n.modules domain) i.kernel ∙ i.there
+
+-- and its first handler starts.
+pub started_kernel : {p : Readied} {domain : ℕ} {k : KernelState} {r : RunnerState} {new : KernelState} {end : Moved} → IsPlaced p domain k r new end → (after : KernelState) → IfSome (module_at new.modules domain) (λ x. after ≡ begun new x.domain x.state x.constants (init_to x.face.id)) → after ≡ end.kernel
+started_kernel {domain = domain} i after starts =
+    let is = rw (placed_there i) at starts in
+    is ∙ ap (λ (n : KernelState). begun n domain i.state i.given.address (init_to i.banked.loadable.face.id)) i.kernel ∙ sym (ap (λ (e : Moved). e.kernel) i.is)
+
+pub started_runner : {p : Readied} {domain : ℕ} {k : KernelState} {r : RunnerState} {new : KernelState} {end : Moved} (i : IsPlaced p domain k r new end) → (after : RunnerState) → (code : BankListing) → bank_of p ≡ Some code → IfSome (module_at new.modules domain) (λ x. after ≡ entered (placed r domain code.units) x.handler) → after ≡ end.runner
+started_runner {p = p} {domain = domain} {r = r} i after code held starts =
+    let is = rw (placed_there i) at starts in
+    let same : code_of i.banked ≡ code = same_Some (code_of i.banked) code (sym (ap bank_of i.held) ∙ held) in
+    is ∙ ap (λ (c : BankListing). entered (placed r domain c.units) i.banked.loadable.handler) (sym same) ∙ sym (ap (λ (e : Moved). e.runner) i.is)
+
+pub started_lines : {p : Readied} {domain : ℕ} {k : KernelState} {r : RunnerState} {new : KernelState} {end : Moved} (i : IsPlaced p domain k r new end) → (lines : List TraceLine) → IfSome (module_at new.modules domain) (λ x. lines ≡ line.Load new.clock x.face.id x.domain x.state ∷ line.Run new.clock x.face.id 0 0 ∷ []) → lines ≡ end.lines
+started_lines {domain = domain} i lines tells =
+    let is = rw (placed_there i) at tells in
+    is ∙ ap (λ (n : KernelState). line.Load n.clock i.banked.loadable.face.id domain i.state ∷ line.Run n.clock i.banked.loadable.face.id 0 0 ∷ []) i.kernel ∙ sym (ap (λ (e : Moved). e.lines) i.is)
+
+-- the bank of what was placed: its handler is one of its units
+pub placed_bank : {p : Readied} {domain : ℕ} {k : KernelState} {r : RunnerState} {new : KernelState} {end : Moved} (i : IsPlaced p domain k r new end) → IsGoodImage (prepared_of p) → (code : BankListing) → bank_of p ≡ Some code → IfSome (module_at new.modules domain) (λ x. x.handler < length code.units)
+placed_bank {p = p} i good code held =
+    let image : GoodImage i.banked.loadable = subst (λ (x : Readied). IsGoodImage (prepared_of x)) i.held good in
+    let same : code_of i.banked ≡ code = same_Some (code_of i.banked) code (sym (ap bank_of i.held) ∙ held) in
+    rw (placed_there i) (subst (λ (c : BankListing). i.banked.loadable.handler < length c.units) same image.entered.handler)
+
+-- what was placed has a bank
+pub placed_has : {p : Readied} {domain : ℕ} {k : KernelState} {r : RunnerState} {new : KernelState} {end : Moved} → IsPlaced p domain k r new end → bank_of p ≡ None → ⊥
+placed_has i none = none-some (code_of i.banked) (sym none ∙ ap bank_of i.held)
+
+-- a refused load writes its line
+pub refused_lines : {e : LoadRefusal} {image : ℕ} {k : KernelState} {r : RunnerState} {new : KernelState} {end : Moved} → IsRefused e image k r new end → (old lines : List TraceLine) → old ≡ [] → lines ≡ old ++ refused_line e image new ∷ [] → lines ≡ end.lines
+refused_lines {e = e} {image = image} {new = new} i old lines empty tells =
+    tells ∙ ap (λ (ls : List TraceLine). ls ++ refused_line e image new ∷ []) empty ∙ ap (λ (n : KernelState). refused_line e image n ∷ []) i.kernel ∙ sym (ap (λ (m : Moved). m.lines) i.is)

@@ -91,9 +91,9 @@ pub good_in_domains : (k : KernelState) (r : RunnerState) → GoodMachine k r �
 good_in_domains k r good = each_weaker (GoodModule r) (λ m. m.domain < domain_count) (λ m h. h.domain) k.modules good.modules
 
 -- The last handler of a module starts.
-pub unloads_kernel : (k : KernelState) (r : RunnerState) (id : ℕ) (m : Loaded) (new : KernelState) → module_named k.modules id ≡ Some m → m.face.id ≡ id → new ≡ record (begun k m.domain m.state (final_to m.face.id)) { ending = Some m.face.id } → new ≡ (unload_module (module_named k.modules id) id k r).kernel
+pub unloads_kernel : (k : KernelState) (r : RunnerState) (id : ℕ) (m : Loaded) (new : KernelState) → module_named k.modules id ≡ Some m → m.face.id ≡ id → new ≡ record (begun k m.domain m.state m.constants (final_to m.face.id)) { ending = Some m.face.id } → new ≡ (unload_module (module_named k.modules id) id k r).kernel
 unloads_kernel k r id m new found id_of is =
-    rw found (subst (λ n. new ≡ record (begun k m.domain m.state (final_to n)) { ending = Some n }) id_of is)
+    rw found (subst (λ n. new ≡ record (begun k m.domain m.state m.constants (final_to n)) { ending = Some n }) id_of is)
 
 pub unloads_lines : (k : KernelState) (r : RunnerState) (id : ℕ) (m : Loaded) (lines : List TraceLine) → module_named k.modules id ≡ Some m → m.face.id ≡ id → lines ≡ line.Run k.clock m.face.id 1 0 ∷ [] → lines ≡ (unload_module (module_named k.modules id) id k r).lines
 unloads_lines k r id m lines found id_of tells = rw found (subst (λ n. lines ≡ line.Run k.clock n 1 0 ∷ []) id_of tells)

@@ -1,6 +1,5 @@
 -- A mote, seen as the state of the machine of domains.
-use Rattle.std.specs.Prelude.{ℕ, List, Option}
-use Rattle.domain_model.specs.Prepared.{Prep}
+use Rattle.std.specs.Prelude.{ℕ, List, map}
 use Rattle.domain_model.specs.State.{KernelState, RunnerState, State}
 use Rattle.domain_model.specs.Act.{Acted}
 use Rattle.domain_model.specs.Runners.{ActedBy, seen_by}
@@ -9,6 +8,7 @@ use Rattle.domain_model.specs.declared.event.Choice.{Choice}
 use Rattle.domain_model.specs.declared.event.LoaderEvent.{LoaderEvent}
 use Rattle.domain_model.specs.declared.event.Packet.{Packet}
 use Rattle.domain_model.specs.declared.event.Turned.{Turned}
+use Rattle.mod_loader.specs.Banks.{Readied, prepared_of}
 use Rattle.mote_core.specs.declared.limits.Limits.{Limits}
 
 -- What is to come of a script, in its order: the packets, and the events that are for the loader.
@@ -20,7 +20,7 @@ pub record Plan : Type 0 where
 pub record MoteValue (R : Type 0) : Type 0 where
   pub kernel : KernelState
   pub runner : R
-  pub images : List (Option Prep)
+  pub images : List Readied
   pub packets : List Packet
   pub events : List LoaderEvent
   pub limits : Limits
@@ -34,7 +34,7 @@ state_of part m =
     record {
       kernel = m.kernel;
       runner = part m.runner;
-      images = m.images;
+      images = map prepared_of m.images;
       packets = m.packets;
       events = m.events;
       unit_limit = m.limits.units;

@@ -1,6 +1,6 @@
 //! The lines of a script that are still to come.
 ghost use Rattle.std.specs.Prelude.{◌≡◌, ◌<◌, [], ◌++◌, IfOk, MatchOption, None, OnOk, Some, drop, length, slice_get};
-ghost use Rattle.domain_model.specs.Events.{is_due, loader_event, loader_events, next_time, onto_events, onto_packets, packet_of, packet_times, packets_in};
+ghost use Rattle.domain_model.specs.Events.{earlier, event_times, is_due, loader_event, loader_events, onto_events, onto_packets, packet_of, packet_times, packets_in};
 
 use domain_model::{Event, LoaderEvent, LoaderOrder, Packet, What};
 use event_script::Script;
@@ -119,7 +119,7 @@ impl Agenda {
 
     /// When the next line of the script is due, if one is to come.
     pub fn next_time(&self) -> Option<u64>
-        ensures { result ≡ next_time self.now.packets self.now.events }
+        ensures { result ≡ earlier (slice_get (packet_times self.now.packets) 0) (slice_get (event_times self.now.events) 0) }
     {
         match (self.packet(), self.event()) {
             (Some(packet), Some(event)) => Some(packet.time.min(event.time)),

@@ -1,16 +1,14 @@
 //! One mote: a kernel, a runner of units, and the turns that they make together.
 //!
 //! [`Mote::turn`] is a turn of the machine of domains and writes its lines; [`Mote::new`] gives the state in which a run
-//! begins. A mote takes any [`kernel_call::Runner`]: what it says of a turn rests on the law of runners alone. [`Ready`] is an
-//! image that was prepared for its load: `module_image` reads its fields, and `unit_code` its units.
+//! begins. A mote takes any [`kernel_call::Runner`]: what it says of a turn rests on the law of runners alone. Its images are
+//! prepared, loaded and refused by `mod_loader`.
 #![tactic(auto)]
 
 mod agenda;
 mod limits;
-mod mod_loader;
 mod mote;
 mod turns;
 
 pub use limits::Limits;
-pub use mod_loader::Ready;
 pub use mote::Mote;

@@ -1,25 +1,26 @@
 //! The mote and its turns.
-ghost use Rattle.std.specs.Prelude.{◌≡◌, ◌≢◌, ◌<◌, ◌≤◌, ◌==◌, [], IfOk, length};
+ghost use Rattle.std.specs.Prelude.{◌≡◌, ◌≢◌, ◌<◌, ◌≤◌, ◌==◌, [], IfOk, length, map};
 ghost use Rattle.std.specs.List.{AllByRecursion};
 ghost use Rattle.mote_base.specs.Messages.{front};
 ghost use Rattle.mote_layout.specs.Limits.{unit_limit, handler_limit};
 ghost use Rattle.domain_model.specs.Free.{UnitStep};
 ghost use Rattle.domain_model.specs.Good.{Good, IsGoodImage, ArePackets, AreTimes};
 ghost use Rattle.domain_model.specs.Laws.{LawfulTurn};
-ghost use Rattle.domain_model.specs.Events.{event_times, loader_events, packet_times, packets_in};
+ghost use Rattle.domain_model.specs.Events.{earlier, event_times, is_due, loader_events, packet_times, packets_in, timer_times};
 ghost use Rattle.domain_model.specs.Remaining.{remaining};
 ghost use Rattle.domain_model.specs.Runners.{without_ran, without_ran_lines};
 ghost use Rattle.domain_model.specs.State.{begins, no_runner};
-ghost use Rattle.domain_model.specs.Turn.{May, choice, choose_inside, choose_message, choose_outside, choose_running};
+ghost use Rattle.domain_model.specs.Turn.{May, choice, choose_inside, choose_message, choose_outside, choose_running, choose_timer};
+ghost use Rattle.mod_loader.specs.Banks.{prepared_of};
 ghost use Rattle.mote_core.specs.Value.{acted, made_by, state_of};
 
 use crate::agenda::Agenda;
 use crate::limits::Limits;
-use crate::mod_loader::Ready;
 use crate::turns::{come, dispatch, run_one, settle, stack_pointer, stop};
 use domain_model::{Choice, FaultNote, Lines, LoaderEvent, Rule, Running, TraceLine, Turned};
 use event_script::Script;
 use kernel_call::{Kernel, Runner};
+use mod_loader::Ready;
 use mote_base::NoMemory;
 use std::alloc::Global;
 use std::marker::Model;
@@ -68,6 +69,27 @@ impl<R: Runner> Model for Mote<R> {
     })) };
 }
 
+// Whether a timer of a kernel is due.
+fn is_timer_due(k: &Kernel) -> bool
+    ensures { result ≡ is_due (timer_times k.now.timers) k.now.clock }
+{
+    match k.next_due() {
+        Some(due) => due <= k.clock(),
+        None => false,
+    }
+}
+
+// The earlier of two moments, where there are any.
+fn earlier(one: Option<u64>, other: Option<u64>) -> Option<u64>
+    ensures { result ≡ earlier one other }
+{
+    match (one, other) {
+        (Some(one), Some(other)) => Some(one.min(other)),
+        (Some(one), None) => Some(one),
+        (None, _) => other,
+    }
+}
+
 impl<R: Runner> Mote<R> {
     /// A mote at the start of a run, over a runner that holds no units yet.
     pub fn new(
@@ -77,7 +99,7 @@ impl<R: Runner> Mote<R> {
         limits: Limits,
         runner: R,
     ) -> Result<Mote<R>, NoMemory>
-        requires images { AllByRecursion IsGoodImage images.items }
+        requires images { AllByRecursion IsGoodImage (map prepared_of images.items) }
         requires packets { ArePackets (packets_in script.events.items) }
         requires packet_times { AreTimes (packet_times (packets_in script.events.items)) }
         requires times { AreTimes (event_times (loader_events script.events.items)) }
@@ -86,7 +108,7 @@ impl<R: Runner> Mote<R> {
         requires greatest { limits.handler ≤ handler_limit }
         requires runner { R.Runner.part runner ≡ no_runner }
         ensures begins { IfOk result (λ m. state_of R.Runner.part m ≡
-            begins images.items (packets_in script.events.items) (loader_events script.events.items) limits.units limits.handler) }
+            begins (map prepared_of images.items) (packets_in script.events.items) (loader_events script.events.items) limits.units limits.handler) }
         ensures good { IfOk result (λ m. Good (state_of R.Runner.part m)) }
     {
         let kernel = Kernel::new(alloc)?;
@@ -143,10 +165,21 @@ impl<R: Runner> Mote<R> {
         if self.agenda.is_packet_due(self.kernel.clock()) {
             return Choice::Hears;
         }
-        self.choose_running()
+        self.choose_timer()
     }
 
     // Where no packet is due.
+    fn choose_timer(&self) -> Choice
+        ensures { result ≡ choose_timer (is_due (timer_times self.now.kernel.timers) self.now.kernel.clock)
+            (state_of R.Runner.part self.now) }
+    {
+        if is_timer_due(&self.kernel) {
+            return Choice::Fires;
+        }
+        self.choose_running()
+    }
+
+    // Where no packet and no timer is due.
     fn choose_running(&self) -> Choice
         ensures { result ≡ choose_running self.now.kernel.running (state_of R.Runner.part self.now) }
     {
@@ -186,7 +219,7 @@ impl<R: Runner> Mote<R> {
         if self.kernel.has_message() {
             return Choice::Dispatches;
         }
-        match self.agenda.next_time() {
+        match earlier(self.agenda.next_time(), self.kernel.next_due()) {
             Some(time) => Choice::Jumps(time),
             None => Choice::Idles,
         }
@@ -204,6 +237,7 @@ impl<R: Runner> Mote<R> {
         match next {
             Choice::Stays => {}
             Choice::Hears => self.hear(lines),
+            Choice::Fires => self.fire(lines),
             Choice::Comes(event) => self.come(&event, lines),
             Choice::Dispatches => self.dispatch(lines),
             Choice::Jumps(now) => self.jump(now),
@@ -227,6 +261,16 @@ impl<R: Runner> Mote<R> {
         self.kernel
             .radio(packet.to, packet.sort, packet.bytes.as_slice(), lines);
         self.agenda.pass_packet();
+    }
+
+    fn fire(&mut self, lines: &mut Lines)
+        requires empty { lines.old ≡ [] }
+        requires chosen { choice (state_of R.Runner.part self.old) ≡ Choice.Fires }
+        ensures state { state_of R.Runner.part self.new ≡
+            (made_by R.Runner.part R.Runner.acts Choice.Fires self.old).state }
+        ensures lines { lines.new ≡ (made_by R.Runner.part R.Runner.acts Choice.Fires self.old).lines }
+    {
+        self.kernel.fire(lines);
     }
 
     fn come(&mut self, event: &LoaderEvent, lines: &mut Lines)

@@ -1,27 +1,21 @@
 //! What turns do to kernel and runner.
-ghost use Rattle.std.specs.Prelude.{◌≡◌, ◌<◌, ◌≤◌, ◌+◌, [], ◌∷◌, ◌++◌, length, IfSome, IsSome, IsSomeAnd, None, Ok, Some, true};
-ghost use Rattle.std.specs.List.{AllByRecursion};
+ghost use Rattle.std.specs.Prelude.{◌≡◌, ◌<◌, ◌≤◌, ◌+◌, [], ◌∷◌, ◌++◌, length, map, IfSome, IsSome, None, Some, true};
 ghost use Rattle.mote_base.specs.Messages.{front};
 ghost use Rattle.mote_layout.specs.Limits.{turn_lines};
 ghost use Rattle.mote_layout.specs.Memory.{domain_count};
-ghost use Rattle.domain_model.specs.Free.{UnitStep};
-ghost use Rattle.domain_model.specs.Good.{GoodImage, GoodMachine, IsGoodImage};
+ghost use Rattle.domain_model.specs.Free.{UnitStep, ends_handler};
+ghost use Rattle.domain_model.specs.Good.{GoodMachine};
 ghost use Rattle.domain_model.specs.Modules.{id_at, in_use, module_at, module_named};
-ghost use Rattle.domain_model.specs.Prepared.{refusal_detail, refusal_kind, refusal_number, refusal_value};
-ghost use Rattle.domain_model.specs.Runners.{unit_by, unit_lines};
+ghost use Rattle.domain_model.specs.Runners.{ArePlaceable, unit_by, unit_lines};
 ghost use Rattle.domain_model.specs.Turn.{begun, came, close, dispatch, entered, faulted, init_to, load_prepared, placed, settled, unload_module};
+ghost use Rattle.mod_loader.specs.Banks.{prepared_of};
+ghost use Rattle.mod_loader.specs.Loads.{load_detail, load_kind, load_number, load_value};
 ghost use Rattle.mote_core.specs.Rows.{AreInDomains};
 
-use crate::mod_loader::{Loadable, Ready};
-use domain_model::{FaultNote, Lines, LoaderOrder, Refusal, Running, TraceLine, UnitEnd};
-use kernel_call::{Admitted, Kernel, Runner};
-
-/// Why a load is refused, by the number that its line gives.
-const DUPLICATE: u8 = 4;
-
-const NO_DOMAIN: u8 = 5;
-
-const NO_ROOM: u8 = 6;
+use domain_model::{FaultNote, Lines, LoaderOrder, Running, TraceLine, UnitEnd};
+use kernel_call::{Kernel, Runner};
+use mod_loader::{LoadRefusal, Ready, load};
+use unit_code::BankCode;
 
 /// Where the stack of the running handler stands.
 pub fn stack_pointer(k: &Kernel) -> u16
@@ -51,17 +45,14 @@ pub fn come<R: Runner>(
     requires empty { lines.old ≡ [] }
     requires outside { k.old.running ≡ None }
     requires machine { GoodMachine k.old (R.Runner.part r.old) }
-    requires images { AllByRecursion IsGoodImage images.now }
-    ensures kernel { k.new ≡ (came images.now what k.old (R.Runner.part r.old)).kernel }
-    ensures runner { R.Runner.part r.new ≡ (came images.now what k.old (R.Runner.part r.old)).runner }
-    ensures lines { lines.new ≡ (came images.now what k.old (R.Runner.part r.old)).lines }
+    ensures kernel { k.new ≡ (came (map prepared_of images.now) what k.old (R.Runner.part r.old)).kernel }
+    ensures runner { R.Runner.part r.new ≡ (came (map prepared_of images.now) what k.old (R.Runner.part r.old)).runner }
+    ensures lines { lines.new ≡ (came (map prepared_of images.now) what k.old (R.Runner.part r.old)).lines }
 {
     match what {
         LoaderOrder::Load(number) => {
             if let Some(ready) = images.get(usize::from(number)) {
-                if let Some(prepared) = ready.prepared() {
-                    load_prepared(prepared, number, k, r, lines);
-                }
+                load_image(ready, number, k, r, lines);
             }
         }
         LoaderOrder::Unload(id) => unload(id, k, r, lines),
@@ -107,25 +98,11 @@ pub fn dispatch<R: Runner>(k: &mut Kernel, r: &mut R, lines: &mut Lines)
     }
 }
 
-fn refuse(number: u8, image: u8, k: &Kernel, lines: &mut Lines)
+// Writes the line of a load that is refused.
+fn refuse(refusal: &LoadRefusal, image: u8, k: &Kernel, lines: &mut Lines)
     requires { length lines.old < turn_lines }
-    ensures { lines.new ≡ lines.old ++ TraceLine.Refused k.now.clock image number 0 0 0 ∷ [] }
-{
-    lines.add(TraceLine::Refused {
-        time: k.clock(),
-        image,
-        number,
-        k: 0,
-        p: 0,
-        q: 0,
-    });
-}
-
-// Writes the line of a file that holds no module.
-fn refuse_file(refusal: &Refusal, image: u8, k: &Kernel, lines: &mut Lines)
-    requires { length lines.old < turn_lines }
-    ensures { lines.new ≡ lines.old ++ TraceLine.Refused k.now.clock image (refusal_number refusal.now)
-        (refusal_kind refusal.now) (refusal_value refusal.now) (refusal_detail refusal.now) ∷ [] }
+    ensures { lines.new ≡ lines.old ++ TraceLine.Refused k.now.clock image (load_number refusal.now)
+        (load_kind refusal.now) (load_value refusal.now) (load_detail refusal.now) ∷ [] }
 {
     lines.add(TraceLine::Refused {
         time: k.clock(),
@@ -137,65 +114,41 @@ fn refuse_file(refusal: &Refusal, image: u8, k: &Kernel, lines: &mut Lines)
     });
 }
 
-// Loads the module of an image file, or says why not.
-fn load_prepared<R: Runner>(
-    prepared: &Result<Loadable, Refusal>,
-    image: u8,
-    k: &mut Kernel,
-    r: &mut R,
-    lines: &mut Lines,
-)
+// Loads the module of an image and starts it, or says why it is not loaded.
+fn load_image<R: Runner>(ready: &Ready, image: u8, k: &mut Kernel, r: &mut R, lines: &mut Lines)
     requires empty { lines.old ≡ [] }
     requires outside { k.old.running ≡ None }
     requires machine { GoodMachine k.old (R.Runner.part r.old) }
-    requires prepared { IsGoodImage (Some prepared.now) }
-    ensures kernel { k.new ≡ (load_prepared prepared.now image k.old (R.Runner.part r.old)).kernel }
-    ensures runner { R.Runner.part r.new ≡ (load_prepared prepared.now image k.old (R.Runner.part r.old)).runner }
-    ensures lines { lines.new ≡ (load_prepared prepared.now image k.old (R.Runner.part r.old)).lines }
+    ensures kernel { k.new ≡ (load_prepared (prepared_of ready.now) image k.old (R.Runner.part r.old)).kernel }
+    ensures runner { R.Runner.part r.new ≡
+        (load_prepared (prepared_of ready.now) image k.old (R.Runner.part r.old)).runner }
+    ensures lines { lines.new ≡ (load_prepared (prepared_of ready.now) image k.old (R.Runner.part r.old)).lines }
 {
-    match prepared {
-        Ok(loadable) => load(loadable, image, k, r, lines),
-        Err(refusal) => refuse_file(refusal, image, k, lines),
+    ready.known();
+    match load(k, ready) {
+        Ok(domain) => {
+            let Some(bank) = ready.bank() else {
+                unreachable!()
+            };
+            start(bank, domain, k, r, lines);
+        }
+        Err(refusal) => refuse(&refusal, image, k, lines),
     }
 }
 
-// Loads a module, or says why not.
-fn load<R: Runner>(loadable: &Loadable, image: u8, k: &mut Kernel, r: &mut R, lines: &mut Lines)
-    requires empty { lines.old ≡ [] }
-    requires outside { k.old.running ≡ None }
-    requires machine { GoodMachine k.old (R.Runner.part r.old) }
-    requires loadable { GoodImage loadable.now }
-    ensures kernel { k.new ≡ (load_prepared (Ok loadable.now) image k.old (R.Runner.part r.old)).kernel }
-    ensures runner { R.Runner.part r.new ≡ (load_prepared (Ok loadable.now) image k.old (R.Runner.part r.old)).runner }
-    ensures lines { lines.new ≡ (load_prepared (Ok loadable.now) image k.old (R.Runner.part r.old)).lines }
-{
-    match k.admit(
-        loadable.face(),
-        loadable.state_size(),
-        loadable.handler(),
-        loadable.entries(),
-        &[],
-        false,
-    ) {
-        Admitted::Placed(domain) => start(loadable, domain, k, r, lines),
-        Admitted::Duplicate => refuse(DUPLICATE, image, k, lines),
-        Admitted::Domain => refuse(NO_DOMAIN, image, k, lines),
-        Admitted::Room => refuse(NO_ROOM, image, k, lines),
-    }
-}
-
-// Starts the module that was put into a domain just now.
-fn start<R: Runner>(loadable: &Loadable, domain: u8, k: &mut Kernel, r: &mut R, lines: &mut Lines)
+// Starts the module that was put into a domain just now, with the code of its bank.
+fn start<R: Runner>(bank: &BankCode, domain: u8, k: &mut Kernel, r: &mut R, lines: &mut Lines)
     requires empty { lines.old ≡ [] }
     requires outside { k.old.running ≡ None }
     requires domain { domain < domain_count }
     requires used { in_use k.old.modules domain ≡ true }
     requires banks { length (R.Runner.part r.old).banks ≡ domain_count }
-    requires loadable { GoodImage loadable.now }
+    requires proper { ArePlaceable bank.now.units }
+    requires handler { IfSome (module_at k.old.modules domain) (λ m. m.handler < length bank.now.units) }
     ensures kernel { IfSome (module_at k.old.modules domain)
-        (λ m. k.new ≡ begun k.old m.domain m.state (init_to m.face.id)) }
-    ensures runner { R.Runner.part r.new ≡
-        entered (placed (R.Runner.part r.old) domain loadable.now.units) loadable.now.handler }
+        (λ m. k.new ≡ begun k.old m.domain m.state m.constants (init_to m.face.id)) }
+    ensures runner { IfSome (module_at k.old.modules domain)
+        (λ m. R.Runner.part r.new ≡ entered (placed (R.Runner.part r.old) domain bank.now.units) m.handler) }
     ensures lines { IfSome (module_at k.old.modules domain)
         (λ m. lines.new ≡ TraceLine.Load k.old.clock m.face.id m.domain m.state ∷
         TraceLine.Run k.old.clock m.face.id 0 0 ∷ []) }
@@ -210,8 +163,8 @@ fn start<R: Runner>(loadable: &Loadable, domain: u8, k: &mut Kernel, r: &mut R, 
         state: row.state,
     });
     k.begin(domain, lines);
-    r.place(domain, loadable.code());
-    r.enter(domain, loadable.handler());
+    r.place(domain, bank);
+    r.enter(domain, row.handler);
 }
 
 /// Stops the handler, and takes its module out.
@@ -280,7 +233,7 @@ pub fn run_one<R: Runner>(k: &mut Kernel, r: &mut R, lines: &mut Lines) -> UnitE
     r.run_unit(k, lines)
 }
 
-/// Does what the end of a unit asks for.
+/// Does what the end of a unit asks for, which found this running.
 pub fn settle<R: Runner>(
     ending: UnitEnd,
     run: &Running,
@@ -288,7 +241,7 @@ pub fn settle<R: Runner>(
     r: &mut R,
     lines: &mut Lines,
 )
-    requires running { k.old.running ≡ Some run.now }
+    requires running { ends_handler ending ≡ true → k.old.running ≡ Some run.now }
     requires loaded { in_use k.old.modules run.now.domain ≡ true }
     requires domain { run.now.domain < domain_count }
     requires modules { AreInDomains k.old.modules }

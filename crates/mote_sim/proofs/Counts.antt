@@ -1,12 +1,11 @@
 -- How many files a command has.
-use Rattle.std.proofs.Common.{◌≡◌, ℕ, ◌+◌, ◌≤◌, suc, arith, List, length, Some}
+use Rattle.std.proofs.Common.{◌≡◌, ℕ, ◌+◌, ◌≤◌, suc, arith, refl, Bool, true, false, ◌&&◌, List, length, Some}
 use Rattle.std.specs.Prelude.{IsTrue, nat_le, ◌==◌}
 use Rattle.std.proofs.lemmas.Bool.{leb-true, eqb-true}
 use Rattle.mote_layout.specs.Limits.{images_limit}
 use Rattle.domain_model.specs.declared.request.Kind.TheVariants as kinds
 use Rattle.domain_model.specs.Command.{Command, takes, command_of}
 use Rattle.domain_model.proofs.CommandLaws.{commands_are_by_rules}
-use Rattle.mote_sim.proofs.Images.{both_true}
 
 -- The command has as many files as its kind may take.
 abbrev pub HasItsFiles : Command → Type 0
@@ -14,6 +13,11 @@ HasItsFiles c = IsTrue (takes c.kind (length c.files))
 
 pub has_its_files : (words : List (List ℕ)) (c : Command) → command_of words ≡ Some c → HasItsFiles c
 has_its_files words c e = ((commands_are_by_rules words c).0 e).number
+
+both_true : (a b : Bool) → (a && b) ≡ true → (a ≡ true) × (b ≡ true)
+both_true true true e = (refl, refl)
+both_true true false e = absurd (cc)
+both_true false b e = absurd (cc)
 
 -- A run has an image, and no more than the limit.
 pub one_at_least : (units handler n : ℕ) → IsTrue (takes (kinds.Run units handler) (suc n)) → 1 ≤ n

@@ -14,15 +14,13 @@ use Rattle.domain_model.specs.declared.request.Tool.{Tool}
 use Rattle.domain_model.specs.Command.{Command, limit_of}
 use Rattle.event_script.specs.declared.error.ScriptError.{ScriptError}
 use Rattle.event_script.specs.Refusals.{refusal_of, events_of}
-use Rattle.domain_model.specs.State.{Input}
 use Rattle.mote_sim.specs.Clauses.{AreImages, WritesRun, RefusesFiles, HasStatus, HasToolStatus}
-use Rattle.mote_sim.specs.Outcome.{Outcome, NoCommand, Unheld, Refuses, Runs, Makes, outcome, outcome_of, outcome_by, outcome_with, outcome_of_script, Answers, MayFind, AnswersOver, usage_line}
+use Rattle.mote_sim.specs.Outcome.{Outcome, NoCommand, Unheld, Refuses, Runs, Makes, outcome, outcome_of, outcome_by, outcome_of_script, Answers, MayFind, AnswersOver, usage_line}
 use Rattle.mote_sim.specs.Refusal.{Refusal}
 use Rattle.mote_sim.specs.Tools.{Output, IsMadeBy, Tells}
 use Rattle.mote_sim.specs.Reading.{Gathered, Whole, Longer, Missing, gathered_from, gathered_file, with_first}
-use Rattle.mote_sim.specs.Trace.{IsTraceOf, run_input, are_built, input_with, input_of}
+use Rattle.mote_sim.specs.Trace.{IsTraceOf, run_input}
 use Rattle.mote_sim.proofs.Counts.{HasItsFiles, one_at_least, most_images}
-use Rattle.mote_sim.proofs.Images.{each_built}
 
 -- Where the shelf tells its files, what answers over the shelf answers for them.
 found_is : (files : Option (List Named)) (came : Command → Gathered → Type 0) (command : Option Command) (fs : List Named) (found : Outcome) → files ≡ Some fs → MayFind files came command found → found ≡ outcome command fs
@@ -80,32 +78,25 @@ images_whole units handler number fs (name ∷ names) files low e =
     subst (AreImages fs (name ∷ names)) (sym one.files_are)
     (one.held, subst (λ limit. length one.bytes ≤ limit) (later_limit units handler number low) one.fits, others)
 
--- A run that is answered by Done has a script that is not refused, and images that are built.
-record Built (units handler : ℕ) (images : List (List ℕ)) (events : List Event) (refused : Option ScriptError) (text : List ℕ) : Type 0 where
+-- A run that is answered by Done has a script that is not refused.
+record Ran (units handler : ℕ) (images : List (List ℕ)) (events : List Event) (refused : Option ScriptError) (text : List ℕ) : Type 0 where
   pub none : refused ≡ None
-  pub all : are_built images ≡ true
   pub trace : IsTraceOf (run_input units handler images events) text
 
-runs : (units handler : ℕ) (images : List (List ℕ)) (events : List Event) (all : Bool) (text : List ℕ) → Answers (outcome_with (input_with units handler images events all)) Done text → (all ≡ true) × IsTraceOf (run_input units handler images events) text
-runs units handler images events true text a = (refl, a.1)
-runs units handler images events false text a = let e : Done ≡ Refused = a.0 in absurd (cc)
+ran : (units handler : ℕ) (images : List (List ℕ)) (events : List Event) (refused : Option ScriptError) (text : List ℕ) → Answers (outcome_of_script units handler refused events images) Done text → Ran units handler images events refused text
+ran units handler images events (Some error) text a = let e : Done ≡ Refused = a.0 in absurd (cc)
+ran units handler images events None text a = record { none = refl; trace = a.1 }
 
-built : (units handler : ℕ) (images : List (List ℕ)) (events : List Event) (refused : Option ScriptError) (text : List ℕ) → Answers (outcome_of_script units handler refused events images) Done text → Built units handler images events refused text
-built units handler images events (Some error) text a = let e : Done ≡ Refused = a.0 in absurd (cc)
-built units handler images events None text a =
-    let parts = runs units handler images events (are_built images) text a in
-    record { none = refl; all = parts.0; trace = parts.1 }
-
-built_from : (units handler : ℕ) (files images : List (List ℕ)) (script text : List ℕ) → files ≡ script ∷ images → Answers (outcome_by (kinds.Run units handler) files) Done text → Built units handler images (events_of script) (refusal_of (length images) script) text
-built_from units handler files images script text is a =
-    built units handler images (events_of script) (refusal_of (length images) script) text (subst (λ xs. Answers (outcome_by (kinds.Run units handler) xs) Done text) is a)
+ran_from : (units handler : ℕ) (files images : List (List ℕ)) (script text : List ℕ) → files ≡ script ∷ images → Answers (outcome_by (kinds.Run units handler) files) Done text → Ran units handler images (events_of script) (refusal_of (length images) script) text
+ran_from units handler files images script text is a =
+    ran units handler images (events_of script) (refusal_of (length images) script) text (subst (λ xs. Answers (outcome_by (kinds.Run units handler) xs) Done text) is a)
 
 pub writes_run : (units handler : ℕ) (fs : List Named) (names : List (List ℕ)) (text before : List ℕ) (new : Option (List ℕ)) → HasItsFiles (record { kind = kinds.Run units handler; files = names }) → Answers (outcome_of (kinds.Run units handler) (gathered_from (kinds.Run units handler) 0 fs names)) Done text → new ≡ Some (before ++ text) → WritesRun units handler names fs before new
 writes_run units handler fs [] text before new few a written = absurd a
 writes_run units handler fs (s ∷ names) text before new few a written =
     let w = all_whole (kinds.Run units handler) (gathered_from (kinds.Run units handler) 0 fs (s ∷ names)) text a in
     let one = first_of 0 (limit_of (kinds.Run units handler) 0) (held fs s) (gathered_from (kinds.Run units handler) 1 fs names) w.files w.is in
-    let b = built_from units handler w.files one.rest one.bytes text one.files_are w.answer in
+    let r = ran_from units handler w.files one.rest one.bytes text one.files_are w.answer in
     record {
       script_name = s;
       image_names = names;
@@ -117,13 +108,12 @@ writes_run units handler fs (s ∷ names) text before new few a written =
       script_fits = one.fits;
       images = one.rest;
       images_are = images_whole units handler 1 fs names one.rest (omega arith) one.others_are;
-      accepted = b.none;
+      accepted = r.none;
       events = events_of one.bytes;
       events_are = refl;
-      built = each_built one.rest b.all;
-      lines = b.trace.lines;
-      run = b.trace.run;
-      written = written ∙ ap (λ t. Some (before ++ t)) b.trace.spelled;
+      lines = r.trace.lines;
+      run = r.trace.run;
+      written = written ∙ ap (λ t. Some (before ++ t)) r.trace.spelled;
     }
 
 -- Usage tells of no tool.
@@ -139,13 +129,9 @@ usage_outcome (Refuses refusal) text a = let e : Usage ≡ Refused = a.0 in absu
 usage_outcome (Runs i) text a = let e : Usage ≡ Done = a.0 in absurd (cc)
 usage_outcome (Makes tool file) text a = absurd (not_usage a.made text a.told)
 
-with_is_command : (i : Option Input) → outcome_with i ≡ NoCommand → ⊥
-with_is_command None e = cc
-with_is_command (Some i) e = cc
-
 script_is_command : (units handler : ℕ) (refused : Option ScriptError) (events : List Event) (images : List (List ℕ)) → outcome_of_script units handler refused events images ≡ NoCommand → ⊥
 script_is_command units handler (Some error) events images e = cc
-script_is_command units handler None events images e = with_is_command (input_of units handler events images) e
+script_is_command units handler None events images e = cc
 
 by_is_command : (kind : Kind) (files : List (List ℕ)) → outcome_by kind files ≡ NoCommand → ⊥
 by_is_command (kinds.Run units handler) [] e = cc

@@ -4,7 +4,6 @@ pub mod Ends
 pub mod Far
 pub mod Fronts
 pub mod Gather
-pub mod Images
 pub mod Counts
 pub mod Inversion
 pub mod Judged

@@ -1,6 +1,5 @@
 -- What the clauses of the top call say.
-use Rattle.std.specs.Prelude.{◌≡◌, ℕ, ◌≤◌, true, List, [], ◌∷◌, ◌++◌, length, Option, Some, None, IsSome, Result, Ok, Err, ⊤}
-use Rattle.std.specs.List.{AllByRecursion}
+use Rattle.std.specs.Prelude.{◌≡◌, ℕ, ◌≤◌, List, [], ◌∷◌, ◌++◌, length, Option, Some, None, Result, Ok, Err, ⊤}
 use Rattle.mote_base.specs.Files.{Named, held}
 use Rattle.mote_base.specs.Written.{Grows, IsStartOf}
 use Rattle.mote_base.specs.declared.fault.Status.{Status}
@@ -13,7 +12,6 @@ use Rattle.domain_model.specs.declared.script.Event.{Event}
 use Rattle.domain_model.specs.declared.line.TraceLine.{TraceLine}
 use Rattle.domain_model.specs.declared.request.Kind.TheVariants as kinds
 use Rattle.domain_model.specs.Command.{limit_of}
-use Rattle.domain_model.specs.Prepared.{prepared}
 use Rattle.event_script.specs.Refusals.{refusal_of, events_of}
 use Rattle.trace_text.specs.Text.{texts}
 use Rattle.avr_asm.specs.Assembly.{IsImageOf}
@@ -33,8 +31,8 @@ AreImages files (name ∷ names) (image ∷ images) =
     (held files name ≡ Some image) × (length image ≤ image_limit) × AreImages files names images
 
 -- The files of `run` are a script and one image or more, up to their limit. Each was read whole and is within its
--- limit, the script is not refused, each image is built, and the bytes that were added are the text of a lawful run of
--- them within these limits.
+-- limit, the script is not refused, and the bytes that were added are the text of a lawful run of them within these
+-- limits, whatever the images hold.
 pub record WritesRun (units handler : ℕ) (names : List (List ℕ)) (files : List Named) (before : List ℕ) (new : Option (List ℕ)) : Type 0 where
   pub script_name : List ℕ
   pub image_names : List (List ℕ)
@@ -49,7 +47,6 @@ pub record WritesRun (units handler : ℕ) (names : List (List ℕ)) (files : Li
   pub events : List Event
   pub accepted : refusal_of (length images) script ≡ None
   pub events_are : events ≡ events_of script
-  pub built : AllByRecursion (λ image. IsSome (prepared image)) images
   pub lines : List TraceLine
   pub run : IsLawfulRun (run_input units handler images events) lines
   pub written : new ≡ Some (before ++ texts lines)

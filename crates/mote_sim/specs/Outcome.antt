@@ -12,9 +12,9 @@ use Rattle.domain_model.specs.State.{Input}
 use Rattle.event_script.specs.declared.error.ScriptError.{ScriptError}
 use Rattle.event_script.specs.Refusals.{refusal_of, events_of}
 use Rattle.mote_sim.specs.Reading.{Gathered, Whole, Longer, Missing, gathered}
-use Rattle.mote_sim.specs.Refusal.{Refusal, TooLong, BadScript, Unbuilt, line_of}
+use Rattle.mote_sim.specs.Refusal.{Refusal, TooLong, BadScript, line_of}
 use Rattle.mote_sim.specs.Tools.{TellsOf}
-use Rattle.mote_sim.specs.Trace.{IsTraceOf, input_of}
+use Rattle.mote_sim.specs.Trace.{IsTraceOf, run_input}
 
 -- The words are no command; a file of the command isn't held; the command refuses its files; this input is run; or this
 -- tool works on the file of these bytes.
@@ -25,15 +25,11 @@ pub data Outcome : Type 0 where
   Runs : Input → Outcome
   Makes : Tool → List ℕ → Outcome
 
-abbrev pub outcome_with : Option Input → Outcome
-outcome_with None = Refuses Unbuilt
-outcome_with (Some i) = Runs i
-
 -- A script is refused before its images are looked at. It loads images by their numbers, so how many there are decides
 -- whether its lines are events.
 abbrev pub outcome_of_script : ℕ → ℕ → Option ScriptError → List Event → List (List ℕ) → Outcome
 outcome_of_script units handler (Some e) events images = Refuses (BadScript e)
-outcome_of_script units handler None events images = outcome_with (input_of units handler events images)
+outcome_of_script units handler None events images = Runs (run_input units handler images events)
 
 -- By the bytes of a command's files: of `run` a script and its images, of a tool one file. (No command has other numbers
 -- of files.)

@@ -13,13 +13,12 @@ use Rattle.avr_asm.specs.declared.error.AsmError.{AsmError}
 use Rattle.avr_asm.specs.Errors.{kind_number as asm_number, line_number as asm_line}
 use Rattle.mote_sim.specs.Fields.{field}
 
--- The file with that number is longer than its limit; the first file is no script; an image is not built;
--- the file is no image; its code has no units; its words spell none; the image to upgrade is of the second version; the
--- image is rewritten, or sealed, already; it is an original one, of which no words are verified; or the text is no module.
+-- The file with that number is longer than its limit; the first file is no script; the file is no image; its code has
+-- no units; its words spell none; the image to upgrade is of the second version; the image is rewritten, or sealed,
+-- already; it is an original one, of which no words are verified; or the text is no module.
 pub data Refusal : Type 0 where
   TooLong : ℕ → Refusal
   BadScript : ScriptError → Refusal
-  Unbuilt : Refusal
   BadImage : ImageError → Refusal
   BadCode : CodeError → Refusal
   IsUpgraded : Refusal
@@ -27,9 +26,6 @@ pub data Refusal : Type 0 where
   BadWords : VerifyError → Refusal
   IsOriginal : Refusal
   BadText : AsmError → Refusal
-
-abbrev pub unbuilt_line : List ℕ
-unbuilt_line = codes "refused unbuilt\n"
 
 abbrev pub upgraded_line : List ℕ
 upgraded_line = codes "refused upgraded\n"
@@ -68,7 +64,6 @@ text_line e = codes "refused asm" ++ field (asm_number e) ++ field (asm_line e) 
 abbrev pub line_of : Refusal → List ℕ
 line_of (TooLong number) = size_line number
 line_of (BadScript e) = script_line e
-line_of Unbuilt = unbuilt_line
 line_of (BadImage e) = image_line e
 line_of (BadCode e) = code_line e
 line_of IsUpgraded = upgraded_line

@@ -57,7 +57,7 @@ AreRead c output made =
     ((units : List Unit) × (starts : List ℕ) × Spells c.code (marks_of c) c.sealed units starts × (made ≡ Ok (output units starts)))
     ⊎ ((e : VerifyError) × IsFirst c.code (marks_of c) c.sealed e × (made ≡ Err (BadWords e)))
 
--- `list` lists the units of the code, also those that are not built, with their first words.
+-- `list` lists the units of the code, with their first words.
 abbrev pub list_with : Contents → Option CodeError → Result Output Refusal
 list_with c (Some e) = Err (BadCode e)
 list_with c None = Ok (lists (listed c.code (marks_of c) c.sealed))

@@ -1,21 +1,24 @@
 //! The top call.
-ghost use Rattle.std.specs.Prelude.{◌≡◌, ◌≤◌, ◌⊎◌, IfOk, IsTrue, length, Some, None, true, false, List, ℕ};
+ghost use Rattle.std.specs.Prelude.{◌≡◌, ◌≤◌, ◌⊎◌, IfOk, IsTrue, length, map, Some, None, true, false, List, ℕ};
+ghost use Rattle.std.specs.List.{AllByRecursion};
 ghost use Rattle.mote_base.specs.Causes.{Rose};
 ghost use Rattle.mote_base.specs.Files.{Named};
 ghost use Rattle.mote_base.specs.Written.{Grows};
 ghost use Rattle.mote_layout.specs.Limits.{unit_limit, handler_limit};
 ghost use Rattle.domain_model.specs.Command.{command_of, takes, IsWithinLimits};
-ghost use Rattle.domain_model.specs.Good.{ArePackets, AreTimes};
+ghost use Rattle.domain_model.specs.Good.{ArePackets, AreTimes, IsGoodImage};
 ghost use Rattle.domain_model.specs.Events.{event_times, loader_events, packet_times, packets_in};
+ghost use Rattle.domain_model.specs.Prepared.{prepared};
 ghost use Rattle.event_script.specs.Refusals.{events_of, refusal_of};
+ghost use Rattle.mod_loader.specs.Banks.{prepared_of};
 ghost use Rattle.mote_sim.specs.Asking.{AsksBy, AsksFront, Came};
 ghost use Rattle.mote_sim.specs.Clauses.{WritesRun, WritesTool, RefusesFiles, HasStatus, WritesFront};
 ghost use Rattle.mote_sim.specs.Ending.{Ends, IsAnswer, Answered, CutOff};
-ghost use Rattle.mote_sim.specs.Outcome.{Answers, AnswersOver, outcome, outcome_by, outcome_of_script, outcome_with, usage_line};
-ghost use Rattle.mote_sim.specs.Playing.{AreReady, StandsAt};
+ghost use Rattle.mote_sim.specs.Outcome.{Answers, AnswersOver, Runs, outcome, outcome_by, outcome_of_script, usage_line};
+ghost use Rattle.mote_sim.specs.Playing.{StandsAt};
 ghost use Rattle.mote_sim.specs.Reading.{Admits, AdmitsEach, bytes_of};
 ghost use Rattle.mote_sim.specs.Tools.{TellsOf};
-ghost use Rattle.mote_sim.specs.Trace.{input_of};
+ghost use Rattle.mote_sim.specs.Trace.{run_input};
 ghost use Rattle.mote_sim.specs.Pieces.{LeadsBySome};
 
 use crate::assembling::{write_module, write_text};
@@ -30,48 +33,42 @@ use crate::rewriting::write_rewritten;
 use crate::sealing::{seal, upgrade};
 use domain_model::{Kind, Lines, Tool};
 use event_script::{Script, ScriptError, parse_script};
+use mod_loader::Ready;
 use mote_base::{NoMemory, Shelf, Sink, Status, Word};
-use mote_core::{Limits, Mote, Ready};
+use mote_core::{Limits, Mote};
 use std::alloc::Global;
 use unit_run::PlainRunner;
 
-// The images of these files, prepared for their loads, where each of them is built.
-fn prepare_images(alloc: Global, files: &[Vec<u8>]) -> Result<Option<Vec<Ready>>, NoMemory>
-    ensures { IfOk result (λ found. AreReady found (bytes_of files.now)) }
+// The images of these files, prepared for their loads.
+fn prepare_images(alloc: Global, files: &[Vec<u8>]) -> Result<Vec<Ready>, NoMemory>
+    ensures prepared { IfOk result (λ images. map prepared_of images.items ≡ map prepared (bytes_of files.now)) }
+    ensures good { IfOk result (λ images. AllByRecursion IsGoodImage (map prepared_of images.items)) }
 {
     let mut images = Vec::new(alloc);
     for file in files {
-        let image = Ready::new(alloc, file)?;
-        if !image.is_built() {
-            return Ok(None);
-        }
-        images.push(image)?;
+        images.push(Ready::new(alloc, file)?)?;
     }
-    Ok(Some(images))
+    Ok(images)
 }
 
-// A mote at the start of the run of a script over its images within these limits, where all are built.
+// A mote at the start of the run of a script over its images within these limits.
 fn prepare(
     alloc: Global,
     limits: Limits,
     script: Script,
     images: &[Vec<u8>],
-) -> Result<Option<Mote<PlainRunner>>, NoMemory>
+) -> Result<Mote<PlainRunner>, NoMemory>
     requires units { limits.units ≤ unit_limit }
     requires handler { (1 ≤ limits.handler) × (limits.handler ≤ handler_limit) }
     requires packets { ArePackets (packets_in script.events.items) }
     requires packet_times { AreTimes (packet_times (packets_in script.events.items)) }
     requires times { AreTimes (event_times (loader_events script.events.items)) }
-    ensures { IfOk result (λ found. StandsAt found
-        (input_of limits.units limits.handler script.events.items (bytes_of images.now))) }
+    ensures { IfOk result (λ mote. StandsAt mote
+        (run_input limits.units limits.handler (bytes_of images.now) script.events.items)) }
 {
-    let images = match prepare_images(alloc, images)? {
-        None => return Ok(None),
-        Some(images) => images,
-    };
+    let images = prepare_images(alloc, images)?;
     let runner = PlainRunner::new(alloc)?;
-    let mote = Mote::new(alloc, images, script, limits, runner)?;
-    Ok(Some(mote))
+    Mote::new(alloc, images, script, limits, runner)
 }
 
 // Runs the events of a script over its images. All memory is taken before the first line is put.
@@ -88,12 +85,11 @@ fn run_script<K: Sink>(
     requires packet_times { AreTimes (packet_times (packets_in script.events.items)) }
     requires times { AreTimes (event_times (loader_events script.events.items)) }
     ensures { Ends K.written K.faults (LeadsBySome K.leads) out.old out.new 0 0
-        (Answers (outcome_with (input_of limits.units limits.handler script.events.items (bytes_of images.now)))) result }
+        (Answers (Runs (run_input limits.units limits.handler (bytes_of images.now) script.events.items))) result }
 {
     let mut mote = match prepare(alloc, limits, script, images) {
         Err(_) => return Status::NoMemory,
-        Ok(None) => return put_answer(out, b"refused unbuilt\n", Status::Refused),
-        Ok(Some(mote)) => mote,
+        Ok(mote) => mote,
     };
     let mut lines = match Lines::new(alloc) {
         Err(_) => return Status::NoMemory,
@@ -239,7 +235,7 @@ pub fn mote_main<F: Shelf, K: Sink>(
         × Grows (K.written out.old) (K.written out.new) usage_line }
     ensures no_command { command_of words.now ≡ None → (result ≡ Status.Usage) ⊎ (result ≡ Status.WriteFault) }
 
-    // Refused: a file is longer than its limit, an image of a run is not built, or a tool refuses its file.
+    // Refused: a file is longer than its limit, the script of a run is refused, or a tool refuses its file.
     // What refuses it is the first of the tool's refusals, in the order of its definition.
     ensures refused { result ≡ Status.Refused → (fs : List Named) → F.files shelf.old ≡ Some fs →
         RefusesFiles (outcome (command_of words.now) fs) (K.written out.old) (K.written out.new) }

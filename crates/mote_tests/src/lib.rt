@@ -1,12 +1,15 @@
 //! Tests of the public calls of the machine of domains, the mote and the program.
 //!
-//! - `rows`: runs and listings of `mote_sim`'s top call, with their faults and limits.
+//! - `tables`: calls of `mote_sim`'s top call told as text, read and checked; `files`: the files that they tell.
+//! - `rows`: runs and listings, with their faults and limits.
 //! - `rewritten`: runs of images that a rewriter made.
 //! - `words`: which words of the command line are a command, and its options.
 //! - `images`: images that the top call writes by `upgrade` and `seal`.
 //! - `turns`: turns of a mote of `mote_core` under small limits, by two runners.
 //! - `units`: runs of modules with units and kernel calls of each kind, by the top call and by both runners.
 //! - `parcels`: runs with payloads, packets and dumps, by the top call.
+//! - `constants`: runs of images with constants; `sealed`: runs of sealed ones; `calls`: runs with calls of functions;
+//!   `timers`: runs with timers.
 //! - `scribble`: a second runner, which leaves other values in every byte that a unit leaves open.
 //! - `modules`: modules as text, and the text of an image.
 //! - `verdicts`: verdicts on rewritten images, and their listings.
@@ -19,6 +22,12 @@ mod scribble;
 
 pub use scribble::ScribbleRunner;
 
+#[cfg(test)]
+mod calls;
+#[cfg(test)]
+mod constants;
+#[cfg(test)]
+mod files;
 #[cfg(test)]
 mod images;
 #[cfg(test)]
@@ -33,6 +42,12 @@ mod rewritten;
 mod rows;
 #[cfg(test)]
 mod scripts;
+#[cfg(test)]
+mod sealed;
+#[cfg(test)]
+mod tables;
+#[cfg(test)]
+mod timers;
 #[cfg(test)]
 mod traces;
 #[cfg(test)]

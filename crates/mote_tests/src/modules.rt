@@ -1,101 +1,92 @@
-//! Modules as text: their images, and the text of an image. Code words stand low byte first.
+//! Modules as text: their images, and the text of an image.
 
-use crate::rows::{JUMPS, LOAD, NEVER, SAYS, answer, shelf_with};
-use mote_base::{MemSink, Status};
+use crate::tables::check_table;
 use std::test::Fail;
 
-/// The module that says 65.
-const SAYS_TEXT: &[u8] =
-    b"module 1\nversion 1\nstate 0\nhandler .0\ncode\nldi r24,65\nkcall 8\nret\n";
+const MODULES: &str = "\
+# Module 1 says byte 65.
+@ says image 1 code E481 940E F108 9508
+# The module that says 65.
+@ says_text lines module 1;version 1;state 0;handler .0;code;ldi r24,65;kcall 8;ret
+$ asm says_text
+= says
 
-/// A module that counts down: E00A 950A F7F1 9508.
-pub(crate) const COUNTS: &[u8] =
-    b"SOSM\x01\x01\0\0\0\0\0\0\0\x04\0\x0A\xE0\x0A\x95\xF1\xF7\x08\x95";
+$ source says
+module 1;version 1;state 0;handler .0;code;ldi r24,65;kcall 8;ret
 
-/// The same with a label, a remark and an empty line.
-const COUNTS_LABELLED: &[u8] = b"# counts down\nmodule 1\nversion 1\nstate 0\nhandler .0\n\ncode\n\
-    ldi r16,10\nagain:\ndec r16\nbrbc 1,.again\nret\n";
+# A module that counts down.
+@ counts image 1 code E00A 950A F7F1 9508
+# The same with a label, a remark and an empty line.
+@ counts_labelled lines # counts down;module 1;version 1;state 0;handler .0;;code;ldi r16,10;again:;dec r16;\
+    brbc 1,.again;ret
+$ asm counts_labelled
+= counts
 
-const COUNTS_TEXT: &[u8] = b"module 1\nversion 1\nstate 0\nhandler .0\ncode\n\
-    ldi r16,10\ndec r16\nbrbc 1,.1\nret\n";
+$ source counts
+module 1;version 1;state 0;handler .0;code;ldi r16,10;dec r16;brbc 1,.1;ret
 
-/// A rewriter's image: 940E F000 930C 940C F096.
-const REWRITTEN: &[u8] =
-    b"SOSM\x01\x02\x01\0\0\0\0\0\0\x05\0\x0E\x94\0\xF0\x0C\x93\x0C\x94\x96\xF0";
+# Texts that are no module, by their sixth line or what is left out.
+@ no_register lines module 1;version 1;state 0;handler .0;code;ldi r15,1;kcall 8;ret
+$3 asm no_register
+refused asm 1 6
 
-/// Texts that are no module, by their sixth line or what is left out.
-const NO_REGISTER: &[u8] =
-    b"module 1\nversion 1\nstate 0\nhandler .0\ncode\nldi r15,1\nkcall 8\nret\n";
+@ no_label lines module 1;version 1;state 0;handler .0;code;rjmp .x;kcall 8;ret
+$3 asm no_label
+refused asm 2 6
 
-const NO_UNIT: &[u8] = b"module 1\nversion 1\nstate 0\nhandler .0\ncode\nrjmp .9\nkcall 8\nret\n";
+@ no_unit lines module 1;version 1;state 0;handler .0;code;rjmp .9;kcall 8;ret
+$3 asm no_unit
+refused asm 3 6
 
-const NO_LABEL: &[u8] = b"module 1\nversion 1\nstate 0\nhandler .0\ncode\nrjmp .x\nkcall 8\nret\n";
+@ no_return lines module 1;version 1;state 0;handler .0;code;ldi r24,65;kcall 8
+$3 asm no_return
+refused asm 4 7
 
-const NO_RETURN: &[u8] = b"module 1\nversion 1\nstate 0\nhandler .0\ncode\nldi r24,65\nkcall 8\n";
+@ none hex 00x0
+$3 asm none
+refused asm 1 1
 
-/// A call: the words, the file, and what is answered.
-type Row = (&'static str, &'static [u8], Status, &'static [u8]);
+# A rewriter's image.
+@ rewritten image 2 flags 1 code 940E F000 930C 940C F096
+$3 source rewritten
+refused already
 
-const ROWS: &[Row] = &[
-    ("asm a", SAYS_TEXT, Status::Done, SAYS),
-    ("source a", SAYS, Status::Done, SAYS_TEXT),
-    ("asm a", COUNTS_LABELLED, Status::Done, COUNTS),
-    ("source a", COUNTS, Status::Done, COUNTS_TEXT),
-    ("asm a", NO_REGISTER, Status::Refused, b"refused asm 1 6\n"),
-    ("asm a", NO_LABEL, Status::Refused, b"refused asm 2 6\n"),
-    ("asm a", NO_UNIT, Status::Refused, b"refused asm 3 6\n"),
-    ("asm a", NO_RETURN, Status::Refused, b"refused asm 4 7\n"),
-    ("asm a", b"", Status::Refused, b"refused asm 1 1\n"),
-    ("source a", REWRITTEN, Status::Refused, b"refused already\n"),
-    ("source a", JUMPS, Status::Refused, b"refused code 2 0 1\n"),
-    (
-        "source a",
-        SAYS_TEXT,
-        Status::Refused,
-        b"refused image 2 0\n",
-    ),
-    ("asm", SAYS_TEXT, Status::Usage, b"mote: usage\n"),
-    ("asm a a", SAYS_TEXT, Status::Usage, b"mote: usage\n"),
-    ("asm -a", SAYS_TEXT, Status::Usage, b"mote: usage\n"),
-    ("source", SAYS, Status::Usage, b"mote: usage\n"),
-    ("source -- a", SAYS, Status::Done, SAYS_TEXT),
-    ("source b", SAYS, Status::ReadFault, b""),
-];
+# Module 1 begins with an indirect jump, which is refused.
+@ jumps image 1 code 9409 9508
+$3 source jumps
+refused code 2 0 1
+
+$3 source says_text
+refused image 2 0
+
+$2 asm
+mote: usage
+
+$2 asm says_text says_text
+mote: usage
+
+$2 asm -a
+mote: usage
+
+$2 source
+mote: usage
+
+$ source -- says
+module 1;version 1;state 0;handler .0;code;ldi r24,65;kcall 8;ret
+
+$4 source b
+
+# A text has the limit of a script: one line that has no end is no module, and one more byte is too much.
+@ text hex 00x1048576
+$3 asm text
+refused asm 1 1
+
+@ text hex 00x1048577
+$3 asm text
+refused size 0
+";
 
 #[test]
 fn modules_are_the_worked_ones(rt: HostRuntime) -> Result<(), Fail> {
-    let alloc = rt.alloc();
-    for (words, file, status, text) in ROWS {
-        let mut shelf = shelf_with(alloc, LOAD.as_bytes(), &[*file], NEVER)?;
-        let mut out = MemSink::new(alloc, 1000, vec![in alloc]?)?;
-        assert_eq!(rt;
-            answer(alloc, words, &mut shelf, &mut out)?,
-            *status,
-            "{words}"
-        );
-        assert_eq!(rt; out.bytes(), *text, "{words}");
-    }
-    Ok(())
-}
-
-/// A text has the limit of a script: one line that has no end is no module, and one more byte is too much.
-#[test]
-fn a_text_has_the_limit_of_a_script(rt: HostRuntime) -> Result<(), Fail> {
-    let alloc = rt.alloc();
-    let rows = [
-        (1_048_576usize, "refused asm 1 1\n"),
-        (1_048_577, "refused size 0\n"),
-    ];
-    for (size, told) in rows {
-        let text = vec![in alloc; 0u8; size]?;
-        let mut shelf = shelf_with(alloc, b"", &[&text], NEVER)?;
-        let mut out = MemSink::new(alloc, 1000, vec![in alloc]?)?;
-        assert_eq!(rt;
-            answer(alloc, "asm a", &mut shelf, &mut out)?,
-            Status::Refused,
-            "{told}"
-        );
-        assert_eq!(rt; out.bytes(), told.as_bytes());
-    }
-    Ok(())
+    check_table(&rt, rt.alloc(), MODULES)
 }

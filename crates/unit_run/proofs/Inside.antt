@@ -8,7 +8,7 @@ use Rattle.avr_machine.specs.DataRead.{IsInMemory}
 use Rattle.avr_machine.specs.Effect.{writes}
 use Rattle.avr_machine.specs.Modes.{store_address as address_by_mode}
 use Rattle.avr_machine.specs.Processor.{Processor}
-use Rattle.unit_code.specs.declared.unit.Unit.TheVariants.{Plain, Store}
+use Rattle.unit_code.specs.declared.unit.Unit.TheVariants.{Plain, Store, Load}
 use Rattle.unit_code.specs.Kinds.{standing_of}
 use Rattle.unit_code.specs.Proper.{IsOfKind}
 use Rattle.domain_model.proofs.InstructionLaws.{off_not, in_not, out_not, call_is_call, rcall_is_reserve}
@@ -25,6 +25,10 @@ plain_inside (StZDec r) p h = absurd (off_not _ r _ _ h.0 (λ e. cc))
 plain_inside (Call k) p h = absurd (call_is_call k _ h.0)
 plain_inside (Rcall k) p h = let reserve = rcall_is_reserve k _ h.0 in absurd (cc)
 plain_inside _ p h = search rules
+
+-- nor does a load's
+pub load_inside : (i : Instr) (p : Processor) → IsOfKind (Load i) → StoresInside i p
+load_inside i p h = plain_inside i p (h.0, h.2)
 
 -- that of a store at its address
 pub store_inside : (i : Instr) (p : Processor) → IsOfKind (Store i) → IsInMemory (unwrap_or (address_by_mode i p) 0) → StoresInside i p

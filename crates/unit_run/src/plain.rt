@@ -4,32 +4,34 @@ ghost use Rattle.avr_isa.specs.Operands.{IsBit, IsEncodable};
 ghost use Rattle.avr_machine.specs.Conditions.{IsStraight, StoresInside};
 ghost use Rattle.mote_layout.specs.Limits.{turn_lines};
 ghost use Rattle.mote_layout.specs.Memory.{bank_words, domain_count, ram_end, ram_start, register_count};
+ghost use Rattle.unit_code.specs.Proper.{IsOfKind};
 ghost use Rattle.domain_model.specs.State.{at_counter, no_runner, with_processor};
-ghost use Rattle.domain_model.specs.Act.{act_branch, act_return, act_skip, act_unit, group_effect, group_sp, next_unit, passes, plain_effect, reserved, taken};
+ghost use Rattle.domain_model.specs.Frames.{bound_at, reserved};
+ghost use Rattle.domain_model.specs.Act.{act_branch, act_skip, act_slot, act_unit, group_effect, group_sp, next_unit, passes, plain_effect, taken};
 ghost use Rattle.domain_model.specs.Good.{GoodMachine};
 ghost use Rattle.domain_model.specs.Runners.{unit_lines};
 ghost use Rattle.domain_model.specs.Turn.{placed};
-ghost use Rattle.domain_model.specs.Units.{IsBuilt};
 
 use crate::bank::Bank;
-use crate::tests_of_units::{is_taken, passes, store_address};
+use crate::tests_of_units::{is_taken, load_address, passes, store_address};
 use avr_isa::Instr;
 use domain_model::{FaultNote, Lines, Rule, Running, Served, UnitEnd};
-use kernel_call::Kernel;
+use kernel_call::{Kernel, Returned, SlotEnd};
 use mote_base::NoMemory;
-use mote_layout::{DOMAINS, FLOOR, POINTER_Y};
+use mote_layout::{DOMAINS, Entry, FLOOR, POINTER_Y, POINTER_Z, entry_of};
 use std::alloc::Global;
 use std::marker::Model;
+use store_check::{SpCheck, check_sp};
 use unit_code::Unit;
 
 /// The register that a group sets SREG to.
 const SREG_SOURCE: u8 = 0;
 
-/// The units of each domain's module, and the number of the one that runs next.
+/// The number of the unit that runs next, and the units of each domain's module.
 #[derive(Drop)]
 pub struct PlainRunner {
-    banks: Vec<Bank>,
     unit: u16,
+    banks: Vec<Bank>,
 }
 
 impl Model for PlainRunner {
@@ -109,7 +111,7 @@ impl PlainRunner {
         k: &mut Kernel,
         lines: &mut Lines,
     ) -> UnitEnd
-        requires built { IsBuilt unit.now }
+        requires kind { IsOfKind unit.now }
         requires unit { self.old.unit < bank_words }
         requires good { GoodMachine k.old self.old }
         requires running { k.old.running ≡ Some run.now }
@@ -125,6 +127,7 @@ impl PlainRunner {
                 self.go_on()
             }
             Unit::Store(store) => self.store(store, run, k),
+            Unit::Load(load) => self.load(load, run, k),
             Unit::Push(r) => self.push(*r, run, k),
             Unit::Pop(d) => self.pop(*d, run, k),
             Unit::SpGroup { with_sreg } => self.set_sp(*with_sreg, run, k),
@@ -133,13 +136,15 @@ impl PlainRunner {
             Unit::Branch { set, bit, target } => self.branch(*set, *bit, *target, k),
             Unit::Jump(target) => self.go_to(*target),
             Unit::KernelCall(number) => self.call_kernel(*number, run, k, lines),
-            Unit::Return => come_back(run, k),
-            _ => unreachable!(),
+            Unit::LocalCall(target) => self.call_local(*target, run, k),
+            Unit::SlotCall(slot) => self.call_slot(*slot, run, k, lines),
+            Unit::SlotIndirect => self.call_indirect(run, k, lines),
+            Unit::Return => self.come_back(run, k),
         }
     }
 
     fn store(&mut self, store: &Instr, run: &Running, k: &mut Kernel) -> UnitEnd
-        requires built { IsBuilt (Unit.Store store.now) }
+        requires kind { IsOfKind (Unit.Store store.now) }
         requires unit { self.old.unit < bank_words }
         requires good { GoodMachine k.old self.old }
         requires running { k.old.running ≡ Some run.now }
@@ -153,6 +158,24 @@ impl PlainRunner {
             return fault(Rule::Store, address);
         }
         run_instruction(k, store);
+        self.go_on()
+    }
+
+    /// A load of a sealed image: its address is looked at before anything changes.
+    fn load(&mut self, load: &Instr, run: &Running, k: &mut Kernel) -> UnitEnd
+        requires kind { IsOfKind (Unit.Load load.now) }
+        requires unit { self.old.unit < bank_words }
+        requires running { k.old.running ≡ Some run.now }
+        ensures kernel { k.new ≡ (act_unit (Unit.Load load.now) run.now k.old self.old).kernel }
+        ensures runner { self.new ≡ (act_unit (Unit.Load load.now) run.now k.old self.old).runner }
+        ensures lines { (act_unit (Unit.Load load.now) run.now k.old self.old).lines ≡ [] }
+        ensures ending { result ≡ (act_unit (Unit.Load load.now) run.now k.old self.old).ending }
+    {
+        let address = load_address(k.cpu(), load);
+        if !k.may_load(address) {
+            return fault(Rule::Load, address);
+        }
+        run_instruction(k, load);
         self.go_on()
     }
 
@@ -200,15 +223,15 @@ impl PlainRunner {
         ensures lines { (act_unit (Unit.SpGroup with_sreg) run.now k.old self.old).lines ≡ [] }
         ensures ending { result ≡ (act_unit (Unit.SpGroup with_sreg) run.now k.old self.old).ending }
     {
-        let sp = k.cpu().pair(POINTER_Y);
-        if sp < FLOOR {
-            return fault(Rule::StackOver, sp);
+        let wanted = k.cpu().pair(POINTER_Y);
+        match check_sp(&k.window(), wanted) {
+            SpCheck::Over => fault(Rule::StackOver, wanted),
+            SpCheck::Under => fault(Rule::StackUnder, wanted),
+            SpCheck::Fine => {
+                move_sp(k, wanted, with_sreg);
+                self.go_on()
+            }
         }
-        if sp > run.base {
-            return fault(Rule::StackUnder, sp);
-        }
-        move_sp(k, sp, with_sreg);
-        self.go_on()
     }
 
     /// Two bytes 0 are pushed.
@@ -230,7 +253,7 @@ impl PlainRunner {
     }
 
     fn skip(&mut self, skip: &Instr, k: &Kernel) -> UnitEnd
-        requires built { IsBuilt (Unit.Skip skip.now) }
+        requires kind { IsOfKind (Unit.Skip skip.now) }
         requires unit { self.old.unit < bank_words }
         ensures next { self.new ≡ (act_skip (passes skip.now k.now.processor) k.now self.old).runner }
         ensures on { result ≡ (act_skip (passes skip.now k.now.processor) k.now self.old).ending }
@@ -266,7 +289,7 @@ impl PlainRunner {
         k: &mut Kernel,
         lines: &mut Lines,
     ) -> UnitEnd
-        requires built { IsBuilt (Unit.KernelCall number) }
+        requires kind { IsOfKind (Unit.KernelCall number) }
         requires unit { self.old.unit < bank_words }
         requires running { k.old.running ≡ Some run.now }
         requires room { length lines.old + unit_lines ≤ turn_lines }
@@ -278,6 +301,72 @@ impl PlainRunner {
         match k.serve(number, lines) {
             Served::Back => self.go_on(),
             Served::Fault(note) => UnitEnd::Fault(note),
+        }
+    }
+
+    fn call_local(&mut self, target: u16, run: &Running, k: &mut Kernel) -> UnitEnd
+        requires unit { self.old.unit < bank_words }
+        requires good { GoodMachine k.old self.old }
+        requires running { k.old.running ≡ Some run.now }
+        ensures kernel { k.new ≡ (act_unit (Unit.LocalCall target) run.now k.old self.old).kernel }
+        ensures runner { self.new ≡ (act_unit (Unit.LocalCall target) run.now k.old self.old).runner }
+        ensures lines { (act_unit (Unit.LocalCall target) run.now k.old self.old).lines ≡ [] }
+        ensures ending { result ≡ (act_unit (Unit.LocalCall target) run.now k.old self.old).ending }
+    {
+        match k.local_call(self.unit + 1) {
+            None => self.go_to(target),
+            Some(note) => UnitEnd::Fault(note),
+        }
+    }
+
+    fn call_slot(&mut self, slot: u8, run: &Running, k: &mut Kernel, lines: &mut Lines) -> UnitEnd
+        requires unit { self.old.unit < bank_words }
+        requires good { GoodMachine k.old self.old }
+        requires running { k.old.running ≡ Some run.now }
+        requires room { length lines.old + unit_lines ≤ turn_lines }
+        ensures kernel { k.new ≡ (act_slot (bound_at k.old run.now slot) slot run.now k.old self.old).kernel }
+        ensures runner { self.new ≡ (act_slot (bound_at k.old run.now slot) slot run.now k.old self.old).runner }
+        ensures lines { lines.new ≡ lines.old
+            ++ (act_slot (bound_at k.old run.now slot) slot run.now k.old self.old).lines }
+        ensures ending { result ≡ (act_slot (bound_at k.old run.now slot) slot run.now k.old self.old).ending }
+    {
+        match k.slot_call(slot, self.unit + 1, lines) {
+            SlotEnd::Entered(_, unit) => self.go_to(unit),
+            SlotEnd::Unbound => self.go_on(),
+            SlotEnd::Fault(note) => UnitEnd::Fault(note),
+        }
+    }
+
+    /// A call of the slot at the address in Z.
+    fn call_indirect(&mut self, run: &Running, k: &mut Kernel, lines: &mut Lines) -> UnitEnd
+        requires unit { self.old.unit < bank_words }
+        requires good { GoodMachine k.old self.old }
+        requires running { k.old.running ≡ Some run.now }
+        requires room { length lines.old + unit_lines ≤ turn_lines }
+        ensures kernel { k.new ≡ (act_unit Unit.SlotIndirect run.now k.old self.old).kernel }
+        ensures runner { self.new ≡ (act_unit Unit.SlotIndirect run.now k.old self.old).runner }
+        ensures lines { lines.new ≡ lines.old ++ (act_unit Unit.SlotIndirect run.now k.old self.old).lines }
+        ensures ending { result ≡ (act_unit Unit.SlotIndirect run.now k.old self.old).ending }
+    {
+        let address = k.cpu().pair(POINTER_Z);
+        match entry_of(address) {
+            Some(Entry::Slot(slot)) => self.call_slot(slot, run, k, lines),
+            _ => fault(Rule::Target, address),
+        }
+    }
+
+    fn come_back(&mut self, run: &Running, k: &mut Kernel) -> UnitEnd
+        requires good { GoodMachine k.old self.old }
+        requires running { k.old.running ≡ Some run.now }
+        ensures kernel { k.new ≡ (act_unit Unit.Return run.now k.old self.old).kernel }
+        ensures runner { self.new ≡ (act_unit Unit.Return run.now k.old self.old).runner }
+        ensures lines { (act_unit Unit.Return run.now k.old self.old).lines ≡ [] }
+        ensures ending { result ≡ (act_unit Unit.Return run.now k.old self.old).ending }
+    {
+        match k.come_back() {
+            Returned::To(_, unit) => self.go_to(unit),
+            Returned::Over => UnitEnd::Over,
+            Returned::Fault(note) => UnitEnd::Fault(note),
         }
     }
 }
@@ -322,20 +411,10 @@ fn push_zeros(k: &mut Kernel)
     cpu.sp -= 2;
 }
 
-/// The handler returns, with SP where it came.
-fn come_back(run: &Running, k: &Kernel) -> UnitEnd
-    ensures { result ≡ (act_return (k.now.processor.sp == run.now.base) k.now no_runner).ending }
-{
-    let sp = k.cpu().sp;
-    if sp == run.base {
-        UnitEnd::Over
-    } else {
-        fault(Rule::Balance, sp)
-    }
-}
-
+/// The unit is refused.
 fn fault(rule: Rule, address: u16) -> UnitEnd
-    ensures { result ≡ UnitEnd.Fault (record { rule = rule; address = address }) }
+    ensures { result ≡ UnitEnd.Fault (record { address = address; rule = rule }) }
 {
-    UnitEnd::Fault(FaultNote { rule, address })
+    let note = FaultNote { rule, address };
+    UnitEnd::Fault(note)
 }

@@ -1,9 +1,9 @@
-//! What units look at: the address of a store, and whether a skip passes and a branch is taken.
+//! What units look at: the address of a store or a load, and whether a skip passes and a branch is taken.
 ghost use Rattle.std.specs.Prelude.{◌≡◌, ◌<◌};
 ghost use Rattle.avr_isa.specs.Operands.{IsBit, IsEncodable};
 ghost use Rattle.avr_machine.specs.Conditions.{IsSkip};
 ghost use Rattle.domain_model.specs.State.{without_counter};
-ghost use Rattle.domain_model.specs.Act.{passes, store_address, taken};
+ghost use Rattle.domain_model.specs.Act.{load_address, passes, store_address, taken};
 
 use avr_alu::is_set;
 use avr_isa::Instr;
@@ -26,6 +26,26 @@ pub fn store_address(cpu: &Cpu, store: &Instr) -> u16
         Instr::StZInc(_) => cpu.pair(POINTER_Z),
         Instr::StZDec(_) => cpu.pair(POINTER_Z).wrapping_sub(1),
         Instr::Sts(_, address) => address,
+        _ => 0,
+    }
+}
+
+/// The address that a load reads, by the same modes.
+#[tactic(auto, using(crate::proofs::Addresses::loads), unfolding(avr_machine::specs::Modes::load_address))]
+pub fn load_address(cpu: &Cpu, load: &Instr) -> u16
+    requires { IsEncodable load.now }
+    ensures { result ≡ load_address load.now (without_counter cpu.now) }
+{
+    match *load {
+        Instr::LdX(_) | Instr::LdXInc(_) => cpu.pair(POINTER_X),
+        Instr::LdXDec(_) => cpu.pair(POINTER_X).wrapping_sub(1),
+        Instr::LddY(_, q) => cpu.pair(POINTER_Y).wrapping_add(u16::from(q)),
+        Instr::LdYInc(_) => cpu.pair(POINTER_Y),
+        Instr::LdYDec(_) => cpu.pair(POINTER_Y).wrapping_sub(1),
+        Instr::LddZ(_, q) => cpu.pair(POINTER_Z).wrapping_add(u16::from(q)),
+        Instr::LdZInc(_) => cpu.pair(POINTER_Z),
+        Instr::LdZDec(_) => cpu.pair(POINTER_Z).wrapping_sub(1),
+        Instr::Lds(_, address) => address,
         _ => 0,
     }
 }

@@ -1,11 +1,11 @@
 use Rattle.std.proofs.Common.{◌≡◌, ◌+◌, ◌*◌, ◌≤◌, drop}
-use Rattle.harbor_verify.specs.Aims.{forms_long}
-use Rattle.harbor_verify.specs.Walks.{forms_in}
+use Rattle.unit_code.specs.Ends.{long_length}
+use Rattle.harbor_verify.specs.Verdict.{units_in}
 use Rattle.harbor_verify.proofs.ends.long_length.Given as goal
 
--- the words so far, of which a template has at most 5, and those of what is left
+-- the words of the units before, each of 16 bits, and of those left
 abbrev pub invariant-loop-n : goal.invariant-loop-n
 invariant-loop-n l = record {
-  sum : l.words + forms_long (drop l.n (forms_in l.code)) ≡ forms_long (forms_in l.code);
-  few : l.words ≤ 5 * l.n;
+  sum : l.length + long_length (drop l.n (units_in l.code)) ≡ long_length (units_in l.code);
+  most : l.length ≤ 65535 * l.n;
 }

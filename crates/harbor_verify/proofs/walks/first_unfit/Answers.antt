@@ -1,27 +1,33 @@
-use Rattle.std.proofs.Common.{◌∙◌, ◌<◌, length, refl, sym, arith, rules}
-use Rattle.harbor_verify.specs.Walks.{unfit, unfit_from}
-use Rattle.harbor_verify.proofs.Walked.{unfit_bad, unfit_good, unfit_none, passed}
+use Rattle.std.proofs.Common.{◌∙◌, ◌<◌, arith, length, sym}
+use Rattle.harbor_spell.proofs.Starts.{instruction_length-some}
+use Rattle.harbor_verify.proofs.Walking.{fit_end, fit_on, no_instruction, none_seen, unfit_instruction}
 use Rattle.harbor_verify.proofs.walks.first_unfit.Goals as goal
 
-pub loop-place-init : goal.loop-place-init
-unfolding unfit
-loop-place-init c = refl
-
-pub loop-place-preserved-then-place-next : goal.loop-place-preserved-then-place-next
-loop-place-preserved-then-place-next c =
-    sym (passed (unfit_from c.args.sealed) c.args.code.now c.loop-place.place c.loop-place.next (λ over p w ws. refl) (omega (arith, c.len-place-end.ensures, c.loop-place-test.true)) c.if-place-next.true) ∙ c.loop-place.invariant
+pub returns-then-next-end : goal.returns-then-next-end
+returns-then-next-end c =
+    fit_end c.args.sealed c.args.code.now c.loop.next c.loop.invariant.read (omega (arith, c.if-next-end.true, c.loop.invariant.end_is))
 
 pub returns-in_default : goal.returns-in_default
 returns-in_default c =
-    let within : c.loop-place.place < length c.args.code.now = omega (arith, c.len-place-end.ensures, c.loop-place-test.true) in
-    sym (unfit_none c.args.sealed c.args.code.now c.loop-place.place c.loop-place.next within c.if-place-next.false (search rules)) ∙ c.loop-place.invariant
+    let inside : c.loop.next < length c.args.code.now = omega (arith, c.if-next-end.false, c.loop.invariant.end_is, c.loop.invariant.inside) in
+    no_instruction c.args.sealed c.args.code.now c.loop.next c.loop.invariant.read inside
+    (none_seen (λ found. found.instruction) c.instruction_at.result _ c.in_default.not-Some c.instruction_at.ensures.first)
 
-pub returns-then-is_unfit : goal.returns-then-is_unfit
-returns-then-is_unfit c =
-    let within : c.loop-place.place < length c.args.code.now = omega (arith, c.len-place-end.ensures, c.loop-place-test.true) in
-    sym (unfit_bad c.args.sealed c.args.code.now c.loop-place.place c.loop-place.next within c.in-Some.instruction _ c.if-place-next.false c.in-Some.ensures.behind (sym c.is_unfit.ensures ∙ c.if-is_unfit.true)) ∙ c.loop-place.invariant
+pub returns-then-not-may_appear : goal.returns-then-not-may_appear
+returns-then-not-may_appear c =
+    let inside : c.loop.next < length c.args.code.now = omega (arith, c.if-next-end.false, c.loop.invariant.end_is, c.loop.invariant.inside) in
+    unfit_instruction c.args.sealed c.args.code.now c.loop.next c.loop.invariant.read c.in-Some.found.instruction inside c.in-Some.ensures.first (sym c.may_appear.ensures ∙ c.if-not-may_appear.true)
 
-pub loop-place-preserved : goal.loop-place-preserved
-loop-place-preserved c =
-    let within : c.loop-place.place < length c.args.code.now = omega (arith, c.len-place-end.ensures, c.loop-place-test.true) in
-    sym (unfit_good c.args.sealed c.args.code.now c.loop-place.place c.loop-place.next within c.in-Some.instruction _ c.in-Some.behind c.if-place-next.false c.in-Some.ensures.behind (sym c.is_unfit.ensures ∙ c.if-is_unfit.false) c.in-Some.ensures.length) ∙ c.loop-place.invariant
+pub loop-preserved : goal.loop-preserved
+loop-preserved c =
+    record {
+      end_is = c.loop.invariant.end_is;
+      inside = c.in-Some.ensures.within;
+      turns = omega (arith, c.in-Some.ensures.next, c.loop.invariant.turns, instruction_length-some c.in-Some.found.instruction);
+      read = fit_on c.args.sealed c.args.code.now c.loop.next c.loop.invariant.read c.in-Some.found.instruction c.in-Some.found.next c.in-Some.ensures.first (sym c.may_appear.ensures ∙ c.if-not-may_appear.false) c.in-Some.ensures.next;
+    }
+
+pub returns : goal.returns
+returns c =
+    fit_end c.args.sealed c.args.code.now c.loop.next c.loop.invariant.read
+    (omega (arith, c.loop-test.false, c.loop.invariant.turns, c.loop.invariant.inside, c.loop.invariant.end_is))

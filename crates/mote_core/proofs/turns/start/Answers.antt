@@ -4,7 +4,3 @@ use Rattle.mote_core.proofs.turns.start.Goals as goal
 
 pub unreachable-requires : goal.unreachable-requires
 unreachable-requires g c = used_row c.args.k.now.modules c.args.domain c.requires.used (sym c.in_default.is ∙ c.module_at.ensures.row)
-
-pub place-requires-clause-proper : goal.place-requires-clause-proper
-place-requires-clause-proper g c =
-    rw c.code.ensures (record { sealed = c.requires.loadable.units.sealed; proper = c.requires.loadable.units.proper })

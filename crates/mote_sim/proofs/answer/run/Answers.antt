@@ -1,8 +1,8 @@
 use Rattle.std.proofs.Common.{◌≡◌, length, None, sym, subst}
 use Rattle.event_script.specs.Refusals.{refusal_of, events_of}
-use Rattle.mote_sim.specs.Outcome.{Answers, outcome_of_script, outcome_with}
+use Rattle.mote_sim.specs.Outcome.{Answers, Runs, outcome_of_script}
 use Rattle.mote_sim.specs.Reading.{bytes_of}
-use Rattle.mote_sim.specs.Trace.{input_of}
+use Rattle.mote_sim.specs.Trace.{run_input}
 use Rattle.mote_sim.proofs.Ends.{ends_as}
 use Rattle.mote_sim.proofs.answer.run.Goals as goal
 
@@ -13,4 +13,4 @@ returns-in-Ok g c =
     let none : refusal_of (length c.args.images.now) c.args.script.now ≡ None = c.in-Ok.ensures.ok.0 in
     ends_as _ _ _ _ _ _ (Answers (outcome_of_script c.args.limits.units c.args.limits.handler (refusal_of (length c.args.images.now) c.args.script.now) events bytes))
     (λ s t a. subst (λ o. Answers (outcome_of_script c.args.limits.units c.args.limits.handler o events bytes) s t) (sym none)
-    (subst (λ es. Answers (outcome_with (input_of c.args.limits.units c.args.limits.handler es bytes)) s t) c.in-Ok.ensures.ok.1 a)) c.run_script.result c.run_script.ensures
+    (subst (λ es. Answers (Runs (run_input c.args.limits.units c.args.limits.handler bytes es)) s t) c.in-Ok.ensures.ok.1 a)) c.run_script.result c.run_script.ensures

@@ -6,6 +6,6 @@ use Rattle.kernel_call.proofs.mail.Mail.issue.Goals as goal
 pub invariant_of-self-2 : goal.invariant_of-self-2
 invariant_of-self-2 c =
     let p = c.in_ok-parcel.parcel in
-    let load : c.with_load.result.load ≡ Some p = ap (λ (m : Message). m.load) c.with_load.ensures in
-    rw c.post_surely.ensures
-    (payloads_gained c.self.inside.heap c.issue.new.self c.self.inside.queues c.self.inside.hand c.with_load.result p load c.in_ok-parcel.ensures.kernel c.self.invariant)
+    let load : c.carrying.result.load ≡ Some p = ap (λ (m : Message). m.load) c.carrying.ensures in
+    rw c.append.ensures
+    (payloads_gained c.self.inside.heap c.issue.new.self c.self.inside.queues c.self.inside.hand c.self.inside.kept c.carrying.result p load c.in_ok-parcel.ensures.kernel c.self.invariant)

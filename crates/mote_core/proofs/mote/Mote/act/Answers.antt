@@ -1,9 +1,11 @@
-use Rattle.std.proofs.Common.{◌≡◌, ◌∙◌, ap, arith}
+use Rattle.std.proofs.Common.{◌≡◌, ◌∙◌, sym, ap, arith}
 use Rattle.domain_model.specs.State.{KernelState}
+use Rattle.domain_model.specs.Free.{ends_handler}
 use Rattle.domain_model.specs.declared.event.Choice.TheVariants.{Acts}
 use Rattle.domain_model.proofs.ActLaws.{running_good}
-use Rattle.domain_model.proofs.TurnLaws.{settled_clock, step_changes_alone}
+use Rattle.domain_model.proofs.TurnLaws.{settled_clock, step_changes_alone, step_ends}
 use Rattle.mote_core.specs.Value.{acted, state_of}
+use Rattle.mote_core.proofs.Clocks.{clock_far}
 use Rattle.mote_core.proofs.RowLaws.{good_in_domains}
 use Rattle.mote_core.proofs.MoteLaws.{facts_of, good_of}
 use Rattle.mote_core.proofs.mote.Mote.act.Goals as goal
@@ -15,7 +17,7 @@ overflow_add-now g c =
     c.clock-now.ensures.clock ∙ ap (λ (k : KernelState). k.clock) c.settle.ensures.kernel
     ∙ settled_clock c.run_one-ending.result c.args.run.now c.run_one-ending.new.k _ c.run_one-ending.new.lines
     ∙ ap (λ (k : KernelState). k.clock) (c.run_one-ending.ensures.kernel ∙ alone) in
-    omega (arith, before, c.self.invariant.clock, c.self.invariant.total, c.self.invariant.units)
+    omega (arith, before, clock_far _ c.self.invariant)
 
 pub invariant_of-self : goal.invariant_of-self
 invariant_of-self g c =
@@ -32,10 +34,11 @@ pub settle-requires-clause-room : goal.settle-requires-clause-room
 settle-requires-clause-room g c = omega (arith, c.run_one-ending.ensures.few)
 
 pub settle-requires-clause-running : goal.settle-requires-clause-running
-settle-requires-clause-running g c =
-    let alone = step_changes_alone c.self.inside.kernel (g.R.Runner.part c.self.inside.runner) _ c.run_one-ending.ensures.step in
+settle-requires-clause-running g c = λ over.
+    let ends = ap ends_handler (sym c.run_one-ending.ensures.ending) ∙ over in
+    let still = step_ends c.self.inside.kernel (g.R.Runner.part c.self.inside.runner) _ c.run_one-ending.ensures.step ends in
     let facts = facts_of (Acts c.args.run.now) (state_of g.R.Runner.part c.args.self.now) c.requires.chosen in
-    ap (λ (k : KernelState). k.running) (c.run_one-ending.ensures.kernel ∙ alone) ∙ (rw (← c.self.view_is) at facts.running)
+    ap (λ (k : KernelState). k.running) (c.run_one-ending.ensures.kernel ∙ still) ∙ (rw (← c.self.view_is) at facts.running)
 
 pub settle-requires-clause-loaded : goal.settle-requires-clause-loaded
 settle-requires-clause-loaded g c =
@@ -51,4 +54,4 @@ set_clock-requires-clause-last g c =
     c.clock-now.ensures.clock ∙ ap (λ (k : KernelState). k.clock) c.settle.ensures.kernel
     ∙ settled_clock c.run_one-ending.result c.args.run.now c.run_one-ending.new.k _ c.run_one-ending.new.lines
     ∙ ap (λ (k : KernelState). k.clock) (c.run_one-ending.ensures.kernel ∙ alone) in
-    omega (arith, before, c.self.invariant.clock, c.self.invariant.total, c.self.invariant.units)
+    omega (arith, before, clock_far _ c.self.invariant)
