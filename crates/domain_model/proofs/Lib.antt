@@ -37,5 +37,4 @@ pub mod HolderLaws
 pub mod LawfulLaws
 pub mod FileLaws
 pub mod RanLaws
-pub mod CommandLaws
 mod WorkedRows

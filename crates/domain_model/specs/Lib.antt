@@ -1,5 +1,4 @@
 pub mod Bytes
-pub mod Command
 pub mod Services
 pub mod Prepared
 pub mod Files

@@ -6,7 +6,7 @@
 //!
 //! - `State`: the processor, the kernel's lists, the units of the loaded modules, and what is still to come.
 //! - `Services`: the kernel calls by number. `Prepared`: what the file of an image comes to. `Files`: what such a file is, in
-//!   the words of images and of code. `Events`: the lines of a script that come by radio and those for the loader. `Command`: what the words of the command line mean.
+//!   the words of images and of code. `Events`: the lines of a script that come by radio and those for the loader.
 //! - `Modules`: the loaded modules by domain and id. `Given`: the blocks that a request is given. `Payloads`: the blocks that
 //!   messages carry, and those of the modules' constants. `Calls`: what each kernel call does. `Others`: what it leaves to others. `Radio`: what a packet does that
 //!   comes. `Firing`: what a timer does that fires. `Dump`: what is printed of the state.
@@ -29,7 +29,6 @@ mod line;
 mod lines;
 mod payload;
 mod refusal;
-mod request;
 mod script;
 
 pub use event::{Choice, LoaderEvent, LoaderOrder, Packet, Turned};
@@ -44,5 +43,4 @@ pub use line::{TraceLine, Why};
 pub use lines::Lines;
 pub use payload::PayloadBytes;
 pub use refusal::Refusal;
-pub use request::{Kind, Place, Setting, Tool, commands_are_by_rules};
 pub use script::{Event, What};

@@ -1,5 +1,5 @@
 //! The lines that one turn writes.
-ghost use Rattle.std.specs.Prelude.{◌≡◌, ◌<◌, [], ◌∷◌, ◌++◌, length, IfOk};
+ghost use Rattle.std.specs.Prelude.{◌≡◌, ◌<◌, ◌≤◌, [], ◌∷◌, ◌++◌, length, IfOk};
 ghost use Rattle.mote_layout.specs.Limits.{turn_lines};
 
 use crate::line::TraceLine;
@@ -39,6 +39,14 @@ impl Lines {
         ensures { self.new ≡ [] }
     {
         self.items.clear();
+    }
+
+    /// How many lines there are.
+    pub fn len(&self) -> usize
+        ensures { result ≡ length self.now }
+        ensures few { result ≤ turn_lines }
+    {
+        self.items.len()
     }
 
     pub fn items(&self) -> &[TraceLine]

@@ -10,8 +10,8 @@ use Rattle.mote_base.specs.Written.{Calls, joined}
 use Rattle.mote_base.specs.declared.fault.Status.{Status}
 use Rattle.mote_base.specs.declared.fault.Status.TheVariants.{Done, Usage, Refused, ReadFault, WriteFault, NoMemory}
 use Rattle.mote_base.proofs.Puts.{calls_append, calls_one, joined-append}
-use Rattle.domain_model.specs.declared.request.Kind.{Kind}
-use Rattle.domain_model.specs.Command.{limit_of}
+use Rattle.command_line.specs.declared.command.Kind.{Kind}
+use Rattle.command_line.specs.Command.{limit_of}
 use Rattle.domain_model.proofs.Kept.{each_push}
 use Rattle.mote_sim.specs.declared.reading.ReadStop.{ReadStop}
 use Rattle.mote_sim.specs.declared.reading.ReadStop.TheVariants.{TooLong, Fault, Memory}

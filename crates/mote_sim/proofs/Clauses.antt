@@ -5,9 +5,9 @@ use Rattle.mote_base.specs.Files.{Named}
 use Rattle.mote_base.specs.Written.{Grows}
 use Rattle.mote_base.specs.declared.fault.Status.{Status}
 use Rattle.mote_base.specs.declared.fault.Status.TheVariants.{Done, Usage, Refused, ReadFault, WriteFault, NoMemory}
-use Rattle.domain_model.specs.declared.request.Kind.TheVariants as kinds
-use Rattle.domain_model.specs.declared.request.Tool.{Tool}
-use Rattle.domain_model.specs.Command.{Command}
+use Rattle.command_line.specs.declared.command.Kind.TheVariants as kinds
+use Rattle.command_line.specs.declared.command.Tool.{Tool}
+use Rattle.command_line.specs.Command.{Command}
 use Rattle.mote_sim.specs.Clauses.{WritesRun, WritesTool, RefusesFiles, HasStatus, WritesFront}
 use Rattle.mote_sim.specs.Ending.{Ends, Answered, CutOff, IsAnswer}
 use Rattle.mote_sim.specs.Reading.{Gathered}

@@ -3,9 +3,9 @@ use Rattle.std.proofs.Common.{◌≡◌, ℕ, ◌+◌, ◌≤◌, suc, arith, re
 use Rattle.std.specs.Prelude.{IsTrue, nat_le, ◌==◌}
 use Rattle.std.proofs.lemmas.Bool.{leb-true, eqb-true}
 use Rattle.mote_layout.specs.Limits.{images_limit}
-use Rattle.domain_model.specs.declared.request.Kind.TheVariants as kinds
-use Rattle.domain_model.specs.Command.{Command, takes, command_of}
-use Rattle.domain_model.proofs.CommandLaws.{commands_are_by_rules}
+use Rattle.command_line.specs.declared.command.Kind.TheVariants as kinds
+use Rattle.command_line.specs.Command.{Command, takes, command_of}
+use Rattle.command_line.proofs.CommandLaws.{commands_are_by_rules}
 
 -- The command has as many files as its kind may take.
 abbrev pub HasItsFiles : Command → Type 0

@@ -2,8 +2,8 @@
 use Rattle.std.proofs.Common.{◌≡◌, ◌≢◌, ℕ, refl, ap, ◌∙◌, List, [], ◌∷◌, ◌++◌, Option, Some, None, MatchOption, Bor}
 use Rattle.std.specs.Prelude.{if◌then◌else◌}
 use Rattle.std.proofs.lemmas.Bool.{eq-eqb}
-use Rattle.domain_model.specs.Command.{behind_front}
-use Rattle.domain_model.proofs.CommandLaws.{has_front}
+use Rattle.command_line.specs.Command.{behind_front}
+use Rattle.command_line.proofs.CommandLaws.{has_front}
 
 stands_behind : (front rest : List ℕ) → behind_front front (front ++ rest) ≡ Some rest
 stands_behind [] rest = refl

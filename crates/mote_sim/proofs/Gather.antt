@@ -5,8 +5,8 @@ use Rattle.std.proofs.Math.Seq.{drop-cons}
 use Rattle.std.proofs.lemmas.Bool.{lt-ltb}
 use Rattle.mote_base.specs.Causes.{Rose}
 use Rattle.mote_base.specs.Files.{Named, held}
-use Rattle.domain_model.specs.declared.request.Kind.{Kind}
-use Rattle.domain_model.specs.Command.{limit_of}
+use Rattle.command_line.specs.declared.command.Kind.{Kind}
+use Rattle.command_line.specs.Command.{limit_of}
 use Rattle.mote_sim.specs.declared.reading.ReadStop.{ReadStop}
 use Rattle.mote_sim.specs.declared.reading.ReadStop.TheVariants.{TooLong, Fault, Memory}
 use Rattle.mote_sim.specs.Reading.{Gathered, Longer, gathered_from, gathered_file, with_first, with_front, StopsAt, IsLonger, GatherStops}

@@ -8,10 +8,10 @@ use Rattle.mote_base.specs.declared.fault.Status.{Status}
 use Rattle.mote_base.specs.declared.fault.Status.TheVariants.{Done, Usage, Refused}
 use Rattle.mote_layout.specs.Limits.{script_limit, image_limit}
 use Rattle.domain_model.specs.declared.script.Event.{Event}
-use Rattle.domain_model.specs.declared.request.Kind.{Kind}
-use Rattle.domain_model.specs.declared.request.Kind.TheVariants as kinds
-use Rattle.domain_model.specs.declared.request.Tool.{Tool}
-use Rattle.domain_model.specs.Command.{Command, limit_of}
+use Rattle.command_line.specs.declared.command.Kind.{Kind}
+use Rattle.command_line.specs.declared.command.Kind.TheVariants as kinds
+use Rattle.command_line.specs.declared.command.Tool.{Tool}
+use Rattle.command_line.specs.Command.{Command, limit_of}
 use Rattle.event_script.specs.declared.error.ScriptError.{ScriptError}
 use Rattle.event_script.specs.Refusals.{refusal_of, events_of}
 use Rattle.mote_sim.specs.Clauses.{AreImages, WritesRun, RefusesFiles, HasStatus, HasToolStatus}

@@ -5,10 +5,10 @@ use Rattle.mote_base.specs.Files.{Named, held}
 use Rattle.mote_base.specs.declared.fault.Status.TheVariants.{Done, Refused}
 use Rattle.module_image.specs.Reading.{image_of}
 use Rattle.module_image.proofs.Images.{image_read}
-use Rattle.domain_model.specs.declared.request.Kind.{Kind}
-use Rattle.domain_model.specs.declared.request.Kind.TheVariants as kinds
-use Rattle.domain_model.specs.declared.request.Tool.{Tool}
-use Rattle.domain_model.specs.Command.{limit_of}
+use Rattle.command_line.specs.declared.command.Kind.{Kind}
+use Rattle.command_line.specs.declared.command.Kind.TheVariants as kinds
+use Rattle.command_line.specs.declared.command.Tool.{Tool}
+use Rattle.command_line.specs.Command.{limit_of}
 use Rattle.mote_sim.specs.Clauses.{Reads, WritesTool}
 use Rattle.mote_sim.specs.Outcome.{outcome_of, outcome_by, Answers}
 use Rattle.mote_sim.specs.Reading.{Whole, gathered_from}

@@ -1,8 +1,8 @@
 -- A word that may not stand where it does.
 use Rattle.std.proofs.Common.{◌≡◌, ◌∙◌, ◌<◌, ℕ, sym, ap, suc, List, ◌∷◌, length, drop, get_or, Option, Some, None}
 use Rattle.std.proofs.Math.Seq.{drop-cons}
-use Rattle.domain_model.specs.Command.{Given, with_word, given_by}
-use Rattle.domain_model.proofs.CommandLaws.{none_given}
+use Rattle.command_line.specs.Command.{Given, with_word, given_by}
+use Rattle.command_line.proofs.CommandLaws.{none_given}
 
 pub none_behind : (words : List (List ℕ)) (i : ℕ) (word : List ℕ) (g : Given) (whole : Option Given) → i < length words → word ≡ get_or words i word → with_word g.place word g ≡ None → given_by (drop i words) (Some g) ≡ whole → None ≡ whole
 none_behind words i word g whole within is never all =

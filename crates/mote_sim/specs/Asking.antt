@@ -7,8 +7,8 @@ use Rattle.mote_base.specs.Asked.{Asked, Start, Read}
 use Rattle.mote_base.specs.Written.{Calls, joined}
 use Rattle.mote_base.specs.declared.fault.Status.{Status}
 use Rattle.mote_base.specs.declared.fault.Status.TheVariants as status
-use Rattle.domain_model.specs.declared.request.Kind.{Kind}
-use Rattle.domain_model.specs.Command.{Command, limit_of}
+use Rattle.command_line.specs.declared.command.Kind.{Kind}
+use Rattle.command_line.specs.Command.{Command, limit_of}
 use Rattle.mote_sim.specs.declared.reading.ReadStop.{ReadStop}
 use Rattle.mote_sim.specs.declared.reading.ReadStop.TheVariants.{TooLong, Fault, Memory}
 use Rattle.mote_sim.specs.Reading.{Gathered, Whole, Longer, with_first, bytes_of}

@@ -7,11 +7,11 @@ use Rattle.mote_base.specs.declared.fault.Status.TheVariants as status
 use Rattle.mote_layout.specs.Limits.{script_limit, image_limit, images_limit}
 use Rattle.module_image.specs.Reading.{image_of}
 use Rattle.module_image.specs.Spelling.{spelling}
-use Rattle.domain_model.specs.declared.request.Tool.{Tool}
+use Rattle.command_line.specs.declared.command.Tool.{Tool}
 use Rattle.domain_model.specs.declared.script.Event.{Event}
 use Rattle.domain_model.specs.declared.line.TraceLine.{TraceLine}
-use Rattle.domain_model.specs.declared.request.Kind.TheVariants as kinds
-use Rattle.domain_model.specs.Command.{limit_of}
+use Rattle.command_line.specs.declared.command.Kind.TheVariants as kinds
+use Rattle.command_line.specs.Command.{limit_of}
 use Rattle.event_script.specs.Refusals.{refusal_of, events_of}
 use Rattle.trace_text.specs.Text.{texts}
 use Rattle.avr_asm.specs.Assembly.{IsImageOf}

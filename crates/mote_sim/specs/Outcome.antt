@@ -3,11 +3,11 @@ use Rattle.std.specs.Prelude.{◌≡◌, ℕ, List, [], ◌∷◌, length, codes
 use Rattle.mote_base.specs.Files.{Named}
 use Rattle.mote_base.specs.declared.fault.Status.{Status}
 use Rattle.mote_base.specs.declared.fault.Status.TheVariants.{Done, Usage, Refused}
-use Rattle.domain_model.specs.declared.request.Kind.{Kind}
-use Rattle.domain_model.specs.declared.request.Kind.TheVariants as kinds
-use Rattle.domain_model.specs.declared.request.Tool.{Tool}
+use Rattle.command_line.specs.declared.command.Kind.{Kind}
+use Rattle.command_line.specs.declared.command.Kind.TheVariants as kinds
+use Rattle.command_line.specs.declared.command.Tool.{Tool}
 use Rattle.domain_model.specs.declared.script.Event.{Event}
-use Rattle.domain_model.specs.Command.{Command}
+use Rattle.command_line.specs.Command.{Command}
 use Rattle.domain_model.specs.State.{Input}
 use Rattle.event_script.specs.declared.error.ScriptError.{ScriptError}
 use Rattle.event_script.specs.Refusals.{refusal_of, events_of}

@@ -4,8 +4,8 @@ use Rattle.std.specs.List.{AllByRecursion}
 use Rattle.std.specs.declared.alloc.Global.{Global}
 use Rattle.mote_base.specs.Causes.{Rose}
 use Rattle.mote_base.specs.Files.{Named, held, told, Holds}
-use Rattle.domain_model.specs.declared.request.Kind.{Kind}
-use Rattle.domain_model.specs.Command.{Command, limit_of}
+use Rattle.command_line.specs.declared.command.Kind.{Kind}
+use Rattle.command_line.specs.Command.{Command, limit_of}
 use Rattle.mote_sim.specs.declared.reading.ReadStop.{ReadStop}
 use Rattle.mote_sim.specs.declared.reading.ReadStop.TheVariants.{TooLong, Fault, Memory}
 

@@ -1,9 +1,9 @@
 -- What a request of the code means.
 use Rattle.std.specs.Prelude.{◌≡◌, ℕ, Bool, true, false, List, length, IsTrue, Option, Some, None, ⊤}
-use Rattle.domain_model.specs.declared.request.Kind.{Kind}
-use Rattle.domain_model.specs.declared.request.Place.{Place}
-use Rattle.domain_model.specs.declared.request.Place.TheVariants.{Options, Value, Operands}
-use Rattle.domain_model.specs.Command.{Command, Given, IsWithinLimits, takes}
+use Rattle.command_line.specs.declared.command.Kind.{Kind}
+use Rattle.command_line.specs.declared.command.Place.{Place}
+use Rattle.command_line.specs.declared.command.Place.TheVariants.{Options, Value, Operands}
+use Rattle.command_line.specs.Command.{Command, Given, IsWithinLimits, takes}
 use Rattle.mote_sim.specs.declared.request.Request.{Request}
 use Rattle.mote_sim.specs.declared.request.Request.TheVariants as request
 

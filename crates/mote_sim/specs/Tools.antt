@@ -14,8 +14,8 @@ use Rattle.unit_code.specs.Units.{refusal, listed}
 use Rattle.harbor_rewrite.specs.Rewritten.{IsRewritten, SpellsOriginal}
 use Rattle.harbor_verify.specs.declared.error.VerifyError.{VerifyError}
 use Rattle.harbor_verify.specs.Law.{IsFirst}
-use Rattle.domain_model.specs.declared.request.Tool.{Tool}
-use Rattle.domain_model.specs.declared.request.Tool.TheVariants as tools
+use Rattle.command_line.specs.declared.command.Tool.{Tool}
+use Rattle.command_line.specs.declared.command.Tool.TheVariants as tools
 use Rattle.domain_model.specs.Prepared.{marks_of}
 use Rattle.avr_asm.specs.declared.error.AsmError.{AsmError}
 use Rattle.avr_asm.specs.Assembly.{IsImageOf}

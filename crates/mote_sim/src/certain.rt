@@ -1,6 +1,6 @@
 //! Over a shelf and a sink that never fail there is no fault.
 ghost use Rattle.std.specs.Prelude.{◌≡◌, ◌⊎◌};
-ghost use Rattle.domain_model.specs.Command.{command_of};
+ghost use Rattle.command_line.specs.Command.{command_of};
 ghost use Rattle.mote_sim.specs.Clauses.{HasStatus};
 ghost use Rattle.mote_sim.specs.Outcome.{outcome};
 ghost use Rattle.mote_sim.specs.Reading.{Admits};

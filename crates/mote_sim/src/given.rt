@@ -1,10 +1,10 @@
 //! What the words of a command line say, read from the left.
 ghost use Rattle.std.specs.Prelude.{◌≡◌, Some, None, MatchOption};
-ghost use Rattle.domain_model.specs.Command.{is_option, greatest, value_of, behind_front, front_of, nothing_given, units_given, handler_given, with_value, with_operand, with_option, with_any, with_word};
+ghost use Rattle.command_line.specs.Command.{is_option, greatest, value_of, behind_front, front_of, nothing_given, units_given, handler_given, with_value, with_operand, with_option, with_any, with_word};
 ghost use Rattle.mote_sim.specs.Request.{Takes, waits};
 
 use crate::operands::Operands;
-use domain_model::{Place, Setting};
+use command_line::{Place, Setting};
 use mote_base::{Word, number_in};
 use mote_layout::{MAX_HANDLER_UNITS, MAX_UNITS};
 use std::marker::Model;
@@ -19,7 +19,7 @@ pub struct Given<'a> {
 }
 
 impl<'a> Model for Given<'a> {
-    ghost use Rattle.domain_model.specs.Command.{Given as Said};
+    ghost use Rattle.command_line.specs.Command.{Given as Said};
 
     ghost Value = { Said };
 

@@ -6,7 +6,7 @@ ghost use Rattle.mote_sim.specs.Reading.{Reads, Gathers, AdmitsEach};
 
 use crate::operands::Operands;
 use crate::request::limit_of;
-use domain_model::Kind;
+use command_line::Kind;
 use mote_base::{Failed, Shelf, Word};
 use std::alloc::{AllocError, AllocFailed, Global};
 

@@ -1,11 +1,11 @@
 //! The words of the command line.
 ghost use Rattle.std.specs.Prelude.{◌≡◌, Some};
-ghost use Rattle.domain_model.specs.Command.{is_option, kind_of, tool_of, tool_limit, takes, limit_of, given_by, nothing_given, command_with, command_of};
+ghost use Rattle.command_line.specs.Command.{is_option, kind_of, tool_of, tool_limit, takes, limit_of, given_by, nothing_given, command_with, command_of};
 ghost use Rattle.mote_sim.specs.Request.{command_parts, asked, HasItsOperands, HasItsLimits};
 
 use crate::given::Given;
 use crate::operands::Operands;
-use domain_model::{Kind, Tool};
+use command_line::{Kind, Tool};
 use mote_base::Word;
 use mote_layout::{DEFAULT_HANDLER_UNITS, DEFAULT_UNITS, IMAGE_BYTES, IMAGES, SCRIPT_BYTES};
 

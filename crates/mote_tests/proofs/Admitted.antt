@@ -1,6 +1,6 @@
 -- A shelf that admits every name may be asked for each file of each command.
 use Rattle.std.proofs.Common.{true, ℕ, refl, List, [], ◌∷◌, Option, Some, None}
-use Rattle.domain_model.specs.Command.{Command}
+use Rattle.command_line.specs.Command.{Command}
 use Rattle.mote_sim.specs.Reading.{Admits, AdmitsEach}
 
 each_admitted : (names : List (List ℕ)) → AdmitsEach (λ name. true) names

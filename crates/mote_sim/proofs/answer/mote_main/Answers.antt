@@ -1,5 +1,5 @@
 use Rattle.std.proofs.Common.{subst}
-use Rattle.domain_model.specs.Command.{command_of}
+use Rattle.command_line.specs.Command.{command_of}
 use Rattle.mote_sim.specs.Asking.{AsksBy}
 use Rattle.mote_sim.proofs.Clauses.{headline, tools, usage, refused, complete, answered, front, cut}
 use Rattle.mote_sim.proofs.Counts.{has_its_files}

@@ -4,7 +4,7 @@ use Rattle.std.proofs.Math.ListN.{length-map}
 use Rattle.std.proofs.lemmas.List.{take_all}
 use Rattle.mote_base.specs.declared.fault.Status.{Status}
 use Rattle.event_script.specs.Refusals.{refusal_of, events_of}
-use Rattle.domain_model.specs.declared.request.Kind.TheVariants as kinds
+use Rattle.command_line.specs.declared.command.Kind.TheVariants as kinds
 use Rattle.mote_sim.specs.Outcome.{Answers, outcome_by, outcome_of_script}
 use Rattle.mote_sim.specs.Reading.{bytes_of}
 use Rattle.mote_sim.proofs.Ends.{ends_as}

@@ -1,5 +1,5 @@
 use Rattle.std.proofs.Common.{◌≡◌, Some, None, rules}
-use Rattle.domain_model.specs.Command.{given_by, nothing_given, with_word}
+use Rattle.command_line.specs.Command.{given_by, nothing_given, with_word}
 use Rattle.mote_sim.proofs.Stopped.{none_behind}
 use Rattle.mote_sim.proofs.request.given_by.Goals as goal
 

@@ -1,5 +1,5 @@
 use Rattle.std.proofs.Common.{◌≡◌, Some, drop}
-use Rattle.domain_model.specs.Command.{given_by, nothing_given}
+use Rattle.command_line.specs.Command.{given_by, nothing_given}
 use Rattle.mote_sim.proofs.request.given_by.Given as goal
 
 abbrev pub invariant-loop-word : goal.invariant-loop-word

@@ -1,5 +1,5 @@
 use Rattle.std.proofs.Common.{◌-◌, ◌∷◌, length, take, drop, sym}
-use Rattle.domain_model.proofs.CommandLaws.{commands_are_by_rules, commands_are_within_limits}
+use Rattle.command_line.proofs.CommandLaws.{commands_are_by_rules, commands_are_within_limits}
 use Rattle.mote_sim.proofs.request.request_of.Goals as goal
 
 pub returns-in-Some-clause-limits : goal.returns-in-Some-clause-limits

@@ -4,14 +4,14 @@ use Rattle.std.specs.List.{AllByRecursion}
 use Rattle.std.specs.Str.{bytes_eq}
 use Rattle.mote_base.specs.Numbers.{number_in}
 use Rattle.mote_layout.specs.Limits.{image_limit, images_limit, script_limit, unit_limit, default_units, handler_limit, default_handler_units}
-use Rattle.domain_model.specs.declared.request.Kind.{Kind}
-use Rattle.domain_model.specs.declared.request.Kind.TheVariants as kinds
-use Rattle.domain_model.specs.declared.request.Tool.{Tool}
-use Rattle.domain_model.specs.declared.request.Tool.TheVariants.{Listing, Upgrade, Seal, Rewriting, Verdict, Assembly, Source}
-use Rattle.domain_model.specs.declared.request.Setting.{Setting}
-use Rattle.domain_model.specs.declared.request.Setting.TheVariants.{Units, Handler}
-use Rattle.domain_model.specs.declared.request.Place.{Place}
-use Rattle.domain_model.specs.declared.request.Place.TheVariants.{Options, Value, Operands}
+use Rattle.command_line.specs.declared.command.Kind.{Kind}
+use Rattle.command_line.specs.declared.command.Kind.TheVariants as kinds
+use Rattle.command_line.specs.declared.command.Tool.{Tool}
+use Rattle.command_line.specs.declared.command.Tool.TheVariants.{Listing, Upgrade, Seal, Rewriting, Verdict, Assembly, Source}
+use Rattle.command_line.specs.declared.command.Setting.{Setting}
+use Rattle.command_line.specs.declared.command.Setting.TheVariants.{Units, Handler}
+use Rattle.command_line.specs.declared.command.Place.{Place}
+use Rattle.command_line.specs.declared.command.Place.TheVariants.{Options, Value, Operands}
 
 -- What is to be done, and the names of the files that it takes, in their order.
 pub record Command : Type 0 where

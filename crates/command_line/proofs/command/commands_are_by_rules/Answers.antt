@@ -1,5 +1,5 @@
-use Rattle.domain_model.proofs.CommandLaws.{commands_are_by_rules, commands_are_within_limits}
-use Rattle.domain_model.proofs.request.commands_are_by_rules.Goals as goal
+use Rattle.command_line.proofs.CommandLaws.{commands_are_by_rules, commands_are_within_limits}
+use Rattle.command_line.proofs.command.commands_are_by_rules.Goals as goal
 
 pub returns-clause-rules : goal.returns-clause-rules
 returns-clause-rules c = commands_are_by_rules

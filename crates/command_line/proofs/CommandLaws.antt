@@ -8,14 +8,14 @@ use Rattle.std.proofs.lemmas.Slice.Eq.{bytes_eq-Decides}
 use Rattle.mote_base.specs.Numbers.{number_in, is_number}
 use Rattle.mote_base.specs.Numbers.{value_of as decimal_value}
 use Rattle.mote_layout.specs.Limits.{images_limit, unit_limit, default_units, handler_limit, default_handler_units}
-use Rattle.domain_model.specs.declared.request.Kind.{Kind}
-use Rattle.domain_model.specs.declared.request.Kind.TheVariants as kinds
-use Rattle.domain_model.specs.declared.request.Tool.{Tool}
-use Rattle.domain_model.specs.declared.request.Setting.{Setting}
-use Rattle.domain_model.specs.declared.request.Setting.TheVariants.{Units, Handler}
-use Rattle.domain_model.specs.declared.request.Place.{Place}
-use Rattle.domain_model.specs.declared.request.Place.TheVariants.{Options, Value, Operands}
-use Rattle.domain_model.specs.Command.{Command, Item, Operand, Joined, Apart, IsItem, IsCommand, Given, CommandsAreByRules, CommandsAreWithinLimits, IsWithinLimits, greatest, without_limits, tool_of, takes, kind_of, is_option, end_of_options, name_of, front_of, value_of, written, operands, value_for, values, none_or_one, ended, nothing_given, units_given, handler_given, with_value, with_operand, with_place, behind_front, with_joined, with_option, with_any, with_word, given_by, with_files, command_at, command_with, command_of}
+use Rattle.command_line.specs.declared.command.Kind.{Kind}
+use Rattle.command_line.specs.declared.command.Kind.TheVariants as kinds
+use Rattle.command_line.specs.declared.command.Tool.{Tool}
+use Rattle.command_line.specs.declared.command.Setting.{Setting}
+use Rattle.command_line.specs.declared.command.Setting.TheVariants.{Units, Handler}
+use Rattle.command_line.specs.declared.command.Place.{Place}
+use Rattle.command_line.specs.declared.command.Place.TheVariants.{Options, Value, Operands}
+use Rattle.command_line.specs.Command.{Command, Item, Operand, Joined, Apart, IsItem, IsCommand, Given, CommandsAreByRules, CommandsAreWithinLimits, IsWithinLimits, greatest, without_limits, tool_of, takes, kind_of, is_option, end_of_options, name_of, front_of, value_of, written, operands, value_for, values, none_or_one, ended, nothing_given, units_given, handler_given, with_value, with_operand, with_place, behind_front, with_joined, with_option, with_any, with_word, given_by, with_files, command_at, command_with, command_of}
 
 -- Texts that are the same, and texts that are not.
 same_text : (xs ys : List ℕ) → bytes_eq xs ys ≡ true → xs ≡ ys

@@ -1,5 +1,5 @@
 //! The commands, and the options of a run.
-ghost use Rattle.domain_model.specs.Command.{CommandsAreByRules, CommandsAreWithinLimits};
+ghost use Rattle.command_line.specs.Command.{CommandsAreByRules, CommandsAreWithinLimits};
 
 /// What the words of the command line ask for.
 #[derive(Clone, Copy, Debug, PartialEq, Eq)]
