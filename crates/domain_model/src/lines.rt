@@ -43,7 +43,7 @@ impl Lines {
 
     /// How many lines there are.
     pub fn len(&self) -> usize
-        ensures { result ≡ length self.now }
+        ensures count { result ≡ length self.now }
         ensures few { result ≤ turn_lines }
     {
         self.items.len()
