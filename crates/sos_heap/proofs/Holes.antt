@@ -1,9 +1,10 @@
 -- Which blocks are free after a change of the segments, and that the tree's answer is the least fit.
-use Rattle.std.proofs.Common.{◌≡◌, ℕ, ◌+◌, ◌-◌, ◌≤◌, ◌<◌, ◌⊎◌, ◌↔◌, Bool, true, false, ltb, eqb, not, inl, inr, List, [], ◌∷◌, Option, Some, None, filter, subst, sym, ap, ◌∙◌, arith}
+use Rattle.std.proofs.Common.{refl, ◌≡◌, ℕ, ◌+◌, ◌-◌, ◌≤◌, ◌<◌, ◌⊎◌, ◌↔◌, ◌||◌, ◌&&◌, Bool, true, false, ltb, leb, eqb, not, if◌then◌else◌, inl, inr, List, [], ◌∷◌, Option, Some, None, filter, subst, sym, ap, ◌∙◌, arith}
 use Rattle.std.proofs.lemmas.Bool.{cases_Bool, cond_both, cond-true, cond-false, eqb-true}
+use Rattle.std.specs.List.{list_all}
 use Rattle.std.proofs.lemmas.Option.{same_Some}
 use Rattle.mote_layout.specs.Memory.{block_count}
-use Rattle.mote_layout.specs.Blocks.{AreBlocks, AreBlocksFrom, AreFree, Fits, inserted, without, starting_at}
+use Rattle.mote_layout.specs.Blocks.{AreBlocks, AreBlocksFrom, AreFree, Fits, inserted, without, starting_at, given_to, handed_over}
 use Rattle.mote_layout.specs.Fit.{fit}
 use Rattle.mote_layout.specs.declared.segment.Segment.{Segment}
 use Rattle.mote_layout.proofs.LeastFit.{fits-true, fit-some, fit-none}
@@ -162,6 +163,28 @@ index_clear s ss now held nodes new i n at is cleared blocks found first count m
           ∙ sym (free_without s.first s ss b is.blocks found)
           ∙ ap (λ xs. free_in xs b) (sym cleared))
           (mended (free_in ss) (subst (λ (ns : List Runs). IsTree (free_in ss) ns 0 0) (sym at) is.tree));
+    }
+
+-- A segment that is given to another owner has the blocks that it had.
+one_given : (test : Bool) (owner : ℕ) (s : Segment) (first count : ℕ) → (leb (s.first + s.count) first || leb (first + count) s.first) ≡ (leb ((if test then given_to owner s else s).first + (if test then given_to owner s else s).count) first || leb (first + count) (if test then given_to owner s else s).first)
+one_given true owner s first count = refl
+one_given false owner s first count = refl
+
+pub free_handed : (block owner : ℕ) (ss : List Segment) (first count : ℕ) → list_all (λ s. leb (s.first + s.count) first || leb (first + count) s.first) (handed_over block owner ss) ≡ list_all (λ s. leb (s.first + s.count) first || leb (first + count) s.first) ss
+free_handed block owner [] first count = refl
+free_handed block owner (s ∷ ss) first count =
+    let here = one_given (eqb s.first block) owner s first count in
+    let rest = free_handed block owner ss first count in
+    cc
+
+-- the tree where a segment has another owner
+pub index_handed : (block owner : ℕ) (ss now : List Segment) (nodes : List Runs) → IsIndexed ss nodes → now ≡ handed_over block owner ss → AreBlocks now → IsIndexed now nodes
+index_handed block owner ss now nodes is handed blocks =
+    record {
+      blocks = blocks;
+      tree = same_tree (free_in ss) (free_in now) nodes 0 0
+          (λ b below. sym (ap (λ xs. free_in xs b) handed ∙ ap (λ t. leb (b + 1) block_count && t) (free_handed block owner ss b 1)))
+          is.tree;
     }
 
 -- a segment ends within the leaves

@@ -1,7 +1,7 @@
 //! The map of the blocks, and the index of its holes.
 
 ghost use Rattle.std.specs.Prelude.{◌≡◌, ◌≤◌, Some, [], IfOk};
-ghost use Rattle.mote_layout.specs.Blocks.{AreBlocks, Fits, inserted, segment_at, starting_at, without};
+ghost use Rattle.mote_layout.specs.Blocks.{AreBlocks, Fits, handed_over, inserted, segment_at, starting_at, without};
 ghost use Rattle.mote_layout.specs.Fit.{fit};
 
 use crate::runs::Runs;
@@ -100,5 +100,16 @@ impl Blocks {
         let block = usize::from(segment.first);
         let number = usize::from(segment.count);
         set_blocks(&mut *self.nodes, block, number, true);
+    }
+
+    /// Gives a segment to another owner. No other block is free afterwards, so the index stays as it is.
+    pub fn hand_over(&mut self, segment: Segment, owner: u8)
+        requires there { starting_at self.old segment.first ≡ Some segment }
+        requires owner { owner ≤ KERNEL }
+        ensures handed_over { self.new ≡ handed_over segment.first owner self.old }
+        ensures blocks { AreBlocks self.old × AreBlocks self.new }
+    {
+        self.map.clear_segment(segment.first);
+        self.map.set_segment(segment.first, segment.count, owner);
     }
 }

@@ -10,7 +10,7 @@ ghost use Rattle.mote_layout.specs.Parcels.{KernelStays, KernelGains, KernelLose
 use crate::Parcel;
 use crate::blocks::Blocks;
 use crate::fit::serve;
-use crate::held::{NotOwner, beginning_at, clear_owner, hand_over, held, held_bytes};
+use crate::held::{NotOwner, beginning_at, clear_owner, held, held_bytes};
 use memory_map::MemoryMap;
 use mote_base::NoMemory;
 use mote_layout::{DOMAINS, KERNEL, block_address};
@@ -99,7 +99,7 @@ impl Heap {
         ensures kernel { KernelStays self.old self.new }
     {
         let segment = held(&self.blocks, d, a)?;
-        hand_over(&mut self.blocks, segment, to);
+        self.blocks.hand_over(segment, to);
         Ok(())
     }
 
@@ -115,7 +115,7 @@ impl Heap {
         ensures kernel { IfOk result (λ p. KernelGains p self.old self.new) }
     {
         let segment = held_bytes(&self.blocks, d, a, len)?;
-        hand_over(&mut self.blocks, segment, KERNEL);
+        self.blocks.hand_over(segment, KERNEL);
         Ok(Parcel::new(segment.first, len))
     }
 
@@ -132,7 +132,7 @@ impl Heap {
         let Some(segment) = beginning_at(&self.blocks, address) else {
             unreachable!()
         };
-        hand_over(&mut self.blocks, segment, d);
+        self.blocks.hand_over(segment, d);
         address
     }
 

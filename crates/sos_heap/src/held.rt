@@ -1,13 +1,13 @@
 //! What the heap asks of its blocks, and the changes of single entries.
 
 ghost use Rattle.std.specs.Prelude.{◌≡◌, ◌≤◌, ◌*◌, Some, IfOk, IsErr, ◌↔◌, MatchResult};
-ghost use Rattle.mote_layout.specs.Blocks.{AreBlocks, starting_at, handed_over, without_owner};
+ghost use Rattle.mote_layout.specs.Blocks.{AreBlocks, without_owner};
 ghost use Rattle.mote_layout.specs.Memory.{block_bytes};
 ghost use Rattle.mote_layout.specs.Requests.{beginning_at, Holds, HoldsBytes};
 
 use crate::blocks::Blocks;
 use memory_map::Segment;
-use mote_layout::{BLOCK_BYTES, BLOCKS, KERNEL, block_address};
+use mote_layout::{BLOCK_BYTES, BLOCKS, block_address};
 use thiserror::Error;
 
 /// The address is not the start of a block of the domain, or the block has too few bytes.
@@ -52,17 +52,6 @@ pub fn held_bytes(blocks: &Blocks, d: u8, a: u16, len: u16) -> Result<Segment, N
         return Err(NotOwner);
     }
     Ok(segment)
-}
-
-/// Gives a segment to another owner.
-pub fn hand_over(blocks: &mut Blocks, segment: Segment, owner: u8)
-    requires there { starting_at blocks.old segment.first ≡ Some segment }
-    requires owner { owner ≤ KERNEL }
-    ensures handed_over { blocks.new ≡ handed_over segment.first owner blocks.old }
-    ensures blocks { AreBlocks blocks.old × AreBlocks blocks.new }
-{
-    blocks.clear_segment(segment);
-    blocks.set_segment(segment.first, segment.count, owner);
 }
 
 /// Frees the blocks of a domain.

@@ -24,6 +24,6 @@ returns-clause-kernel c =
     let first : c.in-Some.segment.first ≡ c.args.p.block = omega (arith, begun.address, c.addr-address.ensures.address) in
     let starts : starting_at c.self.inside.blocks c.args.p.block ≡ Some c.in-Some.segment = ap (λ block. starting_at c.self.inside.blocks block) (sym first) ∙ begun.starts in
     let parcel : IsParcelOf c.self.inside.blocks c.args.p = rw c.self.view_is c.requires.parcel in
-    let is : c.hand_over.new.blocks ≡ handed_over c.args.p.block c.args.d c.self.inside.blocks = c.hand_over.ensures.handed_over ∙ ap (λ block. handed_over block c.args.d c.self.inside.blocks) first in
+    let is : c.hand_over.new.self ≡ handed_over c.args.p.block c.args.d c.self.inside.blocks = c.hand_over.ensures.handed_over ∙ ap (λ block. handed_over block c.args.d c.self.inside.blocks) first in
     rw (is, ← c.self.view_is)
     (handed_over_loses c.self.inside.blocks c.args.p c.args.d c.in-Some.segment c.beginning_at.ensures.blocks parcel starts c.requires.domain)
