@@ -1,5 +1,5 @@
 -- The events are such as a script can have.
-use Rattle.std.proofs.Common.{◌≡◌, ℕ, zero, suc, ◌+◌, ◌-◌, ◌*◌, ◌<◌, ◌≤◌, List, [], ◌∷◌, ◌++◌, length, length-append, map, refl, sym, subst, ap, arith}
+use Rattle.std.proofs.Common.{◌≡◌, ℕ, zero, suc, ◌+◌, ◌-◌, ◌*◌, ◌<◌, ◌≤◌, List, [], ◌∷◌, ◌++◌, length, length-append, map, refl, sym, subst, ap, ◌∙◌, arith}
 use Rattle.std.specs.List.{AllByRecursion, range_with_len}
 use Rattle.std.proofs.lemmas.List.FromFn.{length-map-range_with_len}
 use Rattle.domain_model.specs.declared.script.Event.{Event}
@@ -89,6 +89,7 @@ are_events numbers = record {
   few = omega (arith, length-append loads (packets_of numbers), length-first_loads module_count, length-first_packets numbers packet_count);
 }
 
--- and they may stand in a run
-pub may_run : (numbers : List ℕ) (events : List Event) → events ≡ events_of numbers → MayRun events
-may_run numbers events are = subst MayRun (sym are) (events_run module_count (events_of numbers) (are_events numbers))
+-- With all packets they may stand in a run.
+pub may_run : (numbers : List ℕ) (count : ℕ) (events : List Event) → count ≡ packet_count → events ≡ loads ++ first_packets numbers count → MayRun events
+may_run numbers count events all are =
+    subst MayRun (sym (are ∙ ap (λ n. loads ++ first_packets numbers n) all)) (events_run module_count (events_of numbers) (are_events numbers))

@@ -29,10 +29,10 @@ loop-place-preserved c =
     }
 
 pub returns-clause-packets : goal.returns-clause-packets
-returns-clause-packets c = (may_run (numbers_of c.args.seed) c.loop-place.events.items c.loop-place.invariant.events).packets
+returns-clause-packets c = (may_run _ c.loop-place.place _ (omega arith) c.loop-place.invariant.events).packets
 
 pub returns-clause-packet_times : goal.returns-clause-packet_times
-returns-clause-packet_times c = (may_run (numbers_of c.args.seed) c.loop-place.events.items c.loop-place.invariant.events).packet_times
+returns-clause-packet_times c = (may_run _ c.loop-place.place _ (omega arith) c.loop-place.invariant.events).packet_times
 
 pub returns-clause-times : goal.returns-clause-times
-returns-clause-times c = (may_run (numbers_of c.args.seed) c.loop-place.events.items c.loop-place.invariant.events).times
+returns-clause-times c = (may_run _ c.loop-place.place _ (omega arith) c.loop-place.invariant.events).times
