@@ -4,3 +4,4 @@ pub mod Closing
 pub mod Loading
 pub mod MoteLaws
 pub mod RowLaws
+pub mod SeenLaws

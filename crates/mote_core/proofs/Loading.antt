@@ -18,6 +18,7 @@ use Rattle.mod_loader.specs.declared.refusal.LoadRefusal.{LoadRefusal}
 use Rattle.domain_model.specs.Good.{GoodImage, IsGoodImage}
 use Rattle.mod_loader.specs.Banks.{Banked, Readied, bank_of, code_of, prepared_of}
 use Rattle.mod_loader.specs.Loads.{Moving, brought, load_detail, load_kind, load_number, load_value, loading, newcomer_of}
+use Rattle.mote_core.specs.Exact.{loaded_by, loaded_into}
 
 -- The module is in a domain: the load starts it.
 pub record IsPlaced (p : Readied) (domain : ℕ) (k : KernelState) (r : RunnerState) (new : KernelState) (end : Moved) : Type 0 where
@@ -133,3 +134,18 @@ placed_has i none = none-some (code_of i.banked) (sym none ∙ ap bank_of i.held
 pub refused_lines : {e : LoadRefusal} {image : ℕ} {k : KernelState} {r : RunnerState} {new : KernelState} {end : Moved} → IsRefused e image k r new end → (old lines : List TraceLine) → old ≡ [] → lines ≡ old ++ refused_line e image new ∷ [] → lines ≡ end.lines
 refused_lines {e = e} {image = image} {new = new} i old lines empty tells =
     tells ∙ ap (λ (ls : List TraceLine). ls ++ refused_line e image new ∷ []) empty ∙ ap (λ (n : KernelState). refused_line e image n ∷ []) i.kernel ∙ sym (ap (λ (m : Moved). m.lines) i.is)
+
+-- The runner's own value behind a load: where the module is in a domain,
+pub started_by : {R : Type 0} (place : R → ℕ → BankListing → R) (enter : R → ℕ → ℕ → R) {p : Readied} {domain : ℕ} {k : KernelState} {r : RunnerState} {new : KernelState} {end : Moved} (i : IsPlaced p domain k r new end) (answer : Result ℕ LoadRefusal) → answer ≡ Ok domain → answer ≡ (loading p k).answer → (old after : R) (code : BankListing) → bank_of p ≡ Some code → IfSome (module_at new.modules domain) (λ x. after ≡ enter (place old domain code) domain x.handler) → after ≡ loaded_by place enter (Some p) k old
+started_by {R} place enter {p = p} {domain = domain} {k = k} i answer ok tells old after code held starts =
+    let is = rw (placed_there i) at starts in
+    let same : code_of i.banked ≡ code = same_Some (code_of i.banked) code (sym (ap bank_of i.held) ∙ held) in
+    let answers : (loading (Ok i.banked) k).answer ≡ Ok domain = ap (λ (x : Readied). (loading x k).answer) (sym i.held) ∙ sym tells ∙ ok in
+    is ∙ ap (λ (c : BankListing). enter (place old domain c) domain i.banked.loadable.handler) (sym same)
+    ∙ sym (ap (λ (x : Readied). loaded_by place enter (Some x) k old) i.held ∙ ap (λ (a : Result ℕ LoadRefusal). loaded_into place enter a i.banked old) answers)
+
+-- and where the load is refused.
+pub refused_by : {R : Type 0} (place : R → ℕ → BankListing → R) (enter : R → ℕ → ℕ → R) (p : Readied) (k : KernelState) (e : LoadRefusal) (answer : Result ℕ LoadRefusal) → answer ≡ Err e → answer ≡ (loading p k).answer → (old : R) → old ≡ loaded_by place enter (Some p) k old
+refused_by place enter (Err why) k e answer err tells old = refl
+refused_by place enter (Ok b) k e answer err tells old =
+    sym (ap (λ (a : Result ℕ LoadRefusal). loaded_into place enter a b old) (sym tells ∙ err))

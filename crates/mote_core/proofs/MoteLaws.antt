@@ -8,6 +8,7 @@ use Rattle.domain_model.specs.Turn.{choice, made, May, Leaves, Turn}
 use Rattle.domain_model.specs.Facts.{Facts}
 use Rattle.domain_model.specs.Good.{Good}
 use Rattle.domain_model.specs.Runners.{without_ran, without_ran_lines}
+use Rattle.mote_core.specs.Exact.{Turning}
 use Rattle.mote_core.specs.Value.{MoteValue}
 use Rattle.domain_model.proofs.ChoiceLaws.{choice_facts}
 use Rattle.domain_model.proofs.RanLaws.{state_without_ran, lines_without_ran}
@@ -37,3 +38,8 @@ turn_of c s t got lines good next may is tells =
 -- a mote's first event
 pub same_first : {R : Type 0} {m n : MoteValue R} → m ≡ n → slice_get m.events 0 ≡ slice_get n.events 0
 same_first {R} e = ap (λ (m : MoteValue R). slice_get m.events 0) e
+
+-- a mote and lines that are those of a turn
+pub turning_is : {R : Type 0} (t : Turning R) (m : MoteValue R) (lines : List TraceLine) → m ≡ t.value → lines ≡ t.lines → record { value = m; lines = lines } ≡ t
+turning_is {R} t m lines is tells =
+    ap (λ (x : MoteValue R). record { value = x; lines = lines }) is ∙ ap (λ (ls : List TraceLine). record { value = t.value; lines = ls }) tells

@@ -1,2 +1,4 @@
+pub mod Exact
 pub mod Rows
+pub mod Seen
 pub mod Value

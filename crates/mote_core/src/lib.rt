@@ -6,9 +6,11 @@
 #![tactic(auto)]
 
 mod agenda;
+mod laws;
 mod limits;
 mod mote;
 mod turns;
 
+pub use laws::turns_are_seen;
 pub use limits::Limits;
 pub use mote::Mote;

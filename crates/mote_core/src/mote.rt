@@ -12,6 +12,7 @@ ghost use Rattle.domain_model.specs.Runners.{without_ran, without_ran_lines};
 ghost use Rattle.domain_model.specs.State.{begins, no_runner};
 ghost use Rattle.domain_model.specs.Turn.{May, choice, choose_inside, choose_message, choose_outside, choose_running, choose_timer};
 ghost use Rattle.mod_loader.specs.Banks.{prepared_of};
+ghost use Rattle.mote_core.specs.Exact.{came_by, dispatched_by, faulted_by, moved_to, settled_by, starting, turned, turned_by};
 ghost use Rattle.mote_core.specs.Value.{acted, made_by, state_of};
 
 use crate::agenda::Agenda;
@@ -110,6 +111,7 @@ impl<R: Runner> Mote<R> {
         ensures begins { IfOk result (λ m. state_of R.Runner.part m ≡
             begins (map prepared_of images.items) (packets_in script.events.items) (loader_events script.events.items) limits.units limits.handler) }
         ensures good { IfOk result (λ m. Good (state_of R.Runner.part m)) }
+        ensures value { IfOk result (λ m. m ≡ starting runner images.items script.events.items limits) }
     {
         let kernel = Kernel::new(alloc)?;
         let agenda = Agenda::new(alloc, script)?;
@@ -140,6 +142,13 @@ impl<R: Runner> Mote<R> {
             (made_by R.Runner.part R.Runner.acts (choice (state_of R.Runner.part self.old)) self.old).state }
         ensures lines { lines.new ≡
             (made_by R.Runner.part R.Runner.acts (choice (state_of R.Runner.part self.old)) self.old).lines }
+        ensures exact { (record { value = self.new; lines = lines.new }) ≡ turned (record {
+            part = R.Runner.part;
+            acts = R.Runner.acts;
+            placed_by = R.Runner.placed_by;
+            cleared_by = R.Runner.cleared_by;
+            entered_by = R.Runner.entered_by;
+        }) self.old }
         ensures lawful { LawfulTurn (state_of R.Runner.part self.old) (state_of R.Runner.part self.new)
             (without_ran lines.new) }
         ensures ended { result ≡ self.new.ended }
@@ -230,6 +239,13 @@ impl<R: Runner> Mote<R> {
         requires chosen { choice (state_of R.Runner.part self.old) ≡ next }
         ensures state { state_of R.Runner.part self.new ≡ (made_by R.Runner.part R.Runner.acts next self.old).state }
         ensures lines { lines.new ≡ (made_by R.Runner.part R.Runner.acts next self.old).lines }
+        ensures exact { self.new ≡ (turned_by (record {
+            part = R.Runner.part;
+            acts = R.Runner.acts;
+            placed_by = R.Runner.placed_by;
+            cleared_by = R.Runner.cleared_by;
+            entered_by = R.Runner.entered_by;
+        }) next self.old).value }
         ensures may { May next (state_of R.Runner.part self.old)
             (without_ran_lines (acted R.Runner.part R.Runner.acts self.old)) }
         ensures stays { next ≡ Choice.Stays → self.new ≡ self.old }
@@ -253,6 +269,8 @@ impl<R: Runner> Mote<R> {
         requires chosen { choice (state_of R.Runner.part self.old) ≡ Choice.Hears }
         ensures state { state_of R.Runner.part self.new ≡
             (made_by R.Runner.part R.Runner.acts Choice.Hears self.old).state }
+        ensures exact { self.new ≡ moved_to (made_by R.Runner.part R.Runner.acts Choice.Hears self.old).state
+            self.old.runner self.old }
         ensures lines { lines.new ≡ (made_by R.Runner.part R.Runner.acts Choice.Hears self.old).lines }
     {
         let Some(packet) = self.agenda.packet() else {
@@ -268,6 +286,8 @@ impl<R: Runner> Mote<R> {
         requires chosen { choice (state_of R.Runner.part self.old) ≡ Choice.Fires }
         ensures state { state_of R.Runner.part self.new ≡
             (made_by R.Runner.part R.Runner.acts Choice.Fires self.old).state }
+        ensures exact { self.new ≡ moved_to (made_by R.Runner.part R.Runner.acts Choice.Fires self.old).state
+            self.old.runner self.old }
         ensures lines { lines.new ≡ (made_by R.Runner.part R.Runner.acts Choice.Fires self.old).lines }
     {
         self.kernel.fire(lines);
@@ -278,6 +298,8 @@ impl<R: Runner> Mote<R> {
         requires chosen { choice (state_of R.Runner.part self.old) ≡ Choice.Comes event.now }
         ensures state { state_of R.Runner.part self.new ≡
             (made_by R.Runner.part R.Runner.acts (Choice.Comes event.now) self.old).state }
+        ensures exact { self.new ≡ moved_to (made_by R.Runner.part R.Runner.acts (Choice.Comes event.now) self.old).state
+            (came_by R.Runner.placed_by R.Runner.entered_by self.old.images event.now.what self.old.kernel self.old.runner) self.old }
         ensures lines { lines.new ≡ (made_by R.Runner.part R.Runner.acts (Choice.Comes event.now) self.old).lines }
     {
         self.agenda.pass_event();
@@ -296,6 +318,8 @@ impl<R: Runner> Mote<R> {
         requires chosen { choice (state_of R.Runner.part self.old) ≡ Choice.Dispatches }
         ensures state { state_of R.Runner.part self.new ≡
             (made_by R.Runner.part R.Runner.acts Choice.Dispatches self.old).state }
+        ensures exact { self.new ≡ moved_to (made_by R.Runner.part R.Runner.acts Choice.Dispatches self.old).state
+            (dispatched_by R.Runner.entered_by (front self.old.kernel.queues) self.old.kernel self.old.runner) self.old }
         ensures lines { lines.new ≡ (made_by R.Runner.part R.Runner.acts Choice.Dispatches self.old).lines }
     {
         self.spent = 0;
@@ -306,6 +330,8 @@ impl<R: Runner> Mote<R> {
         requires chosen { choice (state_of R.Runner.part self.old) ≡ Choice.Jumps now }
         ensures state { state_of R.Runner.part self.new ≡
             (made_by R.Runner.part R.Runner.acts (Choice.Jumps now) self.old).state }
+        ensures exact { self.new ≡ moved_to (made_by R.Runner.part R.Runner.acts (Choice.Jumps now) self.old).state
+            self.old.runner self.old }
     {
         self.kernel.set_clock(now);
     }
@@ -315,6 +341,8 @@ impl<R: Runner> Mote<R> {
         requires chosen { choice (state_of R.Runner.part self.old) ≡ Choice.Idles }
         ensures state { state_of R.Runner.part self.new ≡
             (made_by R.Runner.part R.Runner.acts Choice.Idles self.old).state }
+        ensures exact { self.new ≡ moved_to (made_by R.Runner.part R.Runner.acts Choice.Idles self.old).state
+            self.old.runner self.old }
         ensures lines { lines.new ≡ (made_by R.Runner.part R.Runner.acts Choice.Idles self.old).lines }
     {
         lines.add(TraceLine::EndIdle {
@@ -328,6 +356,8 @@ impl<R: Runner> Mote<R> {
         requires chosen { choice (state_of R.Runner.part self.old) ≡ Choice.Budgets }
         ensures state { state_of R.Runner.part self.new ≡
             (made_by R.Runner.part R.Runner.acts Choice.Budgets self.old).state }
+        ensures exact { self.new ≡ moved_to (made_by R.Runner.part R.Runner.acts Choice.Budgets self.old).state
+            self.old.runner self.old }
         ensures lines { lines.new ≡ (made_by R.Runner.part R.Runner.acts Choice.Budgets self.old).lines }
     {
         lines.add(TraceLine::EndBudget {
@@ -341,6 +371,8 @@ impl<R: Runner> Mote<R> {
         requires chosen { choice (state_of R.Runner.part self.old) ≡ Choice.Watches run.now }
         ensures state { state_of R.Runner.part self.new ≡
             (made_by R.Runner.part R.Runner.acts (Choice.Watches run.now) self.old).state }
+        ensures exact { self.new ≡ moved_to (made_by R.Runner.part R.Runner.acts (Choice.Watches run.now) self.old).state
+            (faulted_by R.Runner.cleared_by run.now self.old.kernel self.old.runner) self.old }
         ensures lines { lines.new ≡ (made_by R.Runner.part R.Runner.acts (Choice.Watches run.now) self.old).lines }
     {
         let note = FaultNote {
@@ -355,6 +387,9 @@ impl<R: Runner> Mote<R> {
         requires chosen { choice (state_of R.Runner.part self.old) ≡ Choice.Acts run.now }
         ensures state { state_of R.Runner.part self.new ≡
             (made_by R.Runner.part R.Runner.acts (Choice.Acts run.now) self.old).state }
+        ensures exact { self.new ≡ moved_to (made_by R.Runner.part R.Runner.acts (Choice.Acts run.now) self.old).state
+            (settled_by R.Runner.cleared_by (R.Runner.acts self.old.kernel self.old.runner).ending run.now
+                (R.Runner.acts self.old.kernel self.old.runner).kernel (R.Runner.acts self.old.kernel self.old.runner).runner) self.old }
         ensures lines { lines.new ≡ (made_by R.Runner.part R.Runner.acts (Choice.Acts run.now) self.old).lines }
         ensures may { UnitStep self.old.kernel (R.Runner.part self.old.runner)
             (without_ran_lines (acted R.Runner.part R.Runner.acts self.old)) }

@@ -10,6 +10,7 @@ ghost use Rattle.domain_model.specs.Runners.{ArePlaceable, unit_by, unit_lines};
 ghost use Rattle.domain_model.specs.Turn.{begun, came, close, dispatch, entered, faulted, init_to, load_prepared, placed, settled, unload_module};
 ghost use Rattle.mod_loader.specs.Banks.{prepared_of};
 ghost use Rattle.mod_loader.specs.Loads.{load_detail, load_kind, load_number, load_value};
+ghost use Rattle.mote_core.specs.Exact.{came_by, closed_by, dispatched_by, faulted_by, handler_entered, loaded_by, settled_by};
 ghost use Rattle.mote_core.specs.Rows.{AreInDomains};
 
 use domain_model::{FaultNote, Lines, LoaderOrder, Running, TraceLine, UnitEnd};
@@ -47,6 +48,7 @@ pub fn come<R: Runner>(
     requires machine { GoodMachine k.old (R.Runner.part r.old) }
     ensures kernel { k.new ≡ (came (map prepared_of images.now) what k.old (R.Runner.part r.old)).kernel }
     ensures runner { R.Runner.part r.new ≡ (came (map prepared_of images.now) what k.old (R.Runner.part r.old)).runner }
+    ensures exact { r.new ≡ came_by R.Runner.placed_by R.Runner.entered_by images.now what k.old r.old }
     ensures lines { lines.new ≡ (came (map prepared_of images.now) what k.old (R.Runner.part r.old)).lines }
 {
     match what {
@@ -68,6 +70,7 @@ fn unload<R: Runner>(id: u8, k: &mut Kernel, r: &mut R, lines: &mut Lines)
     ensures kernel { k.new ≡ (unload_module (module_named k.old.modules id) id k.old (R.Runner.part r.old)).kernel }
     ensures runner { R.Runner.part r.new ≡
         (unload_module (module_named k.old.modules id) id k.old (R.Runner.part r.old)).runner }
+    ensures exact { r.new ≡ handler_entered R.Runner.entered_by (module_named k.old.modules id) r.old }
     ensures lines { lines.new ≡ (unload_module (module_named k.old.modules id) id k.old (R.Runner.part r.old)).lines }
 {
     let Some(row) = k.module_named(id) else {
@@ -88,6 +91,7 @@ pub fn dispatch<R: Runner>(k: &mut Kernel, r: &mut R, lines: &mut Lines)
     requires machine { GoodMachine k.old (R.Runner.part r.old) }
     ensures kernel { k.new ≡ (dispatch (front k.old.queues) k.old (R.Runner.part r.old)).kernel }
     ensures runner { R.Runner.part r.new ≡ (dispatch (front k.old.queues) k.old (R.Runner.part r.old)).runner }
+    ensures exact { r.new ≡ dispatched_by R.Runner.entered_by (front k.old.queues) k.old r.old }
     ensures lines { lines.new ≡ (dispatch (front k.old.queues) k.old (R.Runner.part r.old)).lines }
 {
     if let Some(domain) = k.next_message(lines) {
@@ -122,6 +126,7 @@ fn load_image<R: Runner>(ready: &Ready, image: u8, k: &mut Kernel, r: &mut R, li
     ensures kernel { k.new ≡ (load_prepared (prepared_of ready.now) image k.old (R.Runner.part r.old)).kernel }
     ensures runner { R.Runner.part r.new ≡
         (load_prepared (prepared_of ready.now) image k.old (R.Runner.part r.old)).runner }
+    ensures exact { r.new ≡ loaded_by R.Runner.placed_by R.Runner.entered_by (Some ready.now) k.old r.old }
     ensures lines { lines.new ≡ (load_prepared (prepared_of ready.now) image k.old (R.Runner.part r.old)).lines }
 {
     ready.known();
@@ -149,6 +154,8 @@ fn start<R: Runner>(bank: &BankCode, domain: u8, k: &mut Kernel, r: &mut R, line
         (λ m. k.new ≡ begun k.old m.domain m.state m.constants (init_to m.face.id)) }
     ensures runner { IfSome (module_at k.old.modules domain)
         (λ m. R.Runner.part r.new ≡ entered (placed (R.Runner.part r.old) domain bank.now.units) m.handler) }
+    ensures exact { IfSome (module_at k.old.modules domain)
+        (λ m. r.new ≡ R.Runner.entered_by (R.Runner.placed_by r.old domain bank.now) domain m.handler) }
     ensures lines { IfSome (module_at k.old.modules domain)
         (λ m. lines.new ≡ TraceLine.Load k.old.clock m.face.id m.domain m.state ∷
         TraceLine.Run k.old.clock m.face.id 0 0 ∷ []) }
@@ -176,6 +183,7 @@ pub fn stop<R: Runner>(note: FaultNote, run: &Running, k: &mut Kernel, r: &mut R
     requires room { length lines.old + 3 ≤ turn_lines }
     ensures kernel { k.new ≡ (faulted note run.now k.old (R.Runner.part r.old) lines.old).kernel }
     ensures runner { R.Runner.part r.new ≡ (faulted note run.now k.old (R.Runner.part r.old) lines.old).runner }
+    ensures exact { r.new ≡ faulted_by R.Runner.cleared_by run.now k.old r.old }
     ensures lines { lines.new ≡ (faulted note run.now k.old (R.Runner.part r.old) lines.old).lines }
 {
     let time = k.clock();
@@ -202,6 +210,7 @@ fn purge_ending<R: Runner>(ending: Option<u8>, k: &mut Kernel, r: &mut R, lines:
     requires room { length lines.old < turn_lines }
     ensures kernel { k.new ≡ (close ending k.old (R.Runner.part r.old) lines.old).kernel }
     ensures runner { R.Runner.part r.new ≡ (close ending k.old (R.Runner.part r.old) lines.old).runner }
+    ensures exact { r.new ≡ closed_by R.Runner.cleared_by ending k.old.modules r.old }
     ensures lines { lines.new ≡ (close ending k.old (R.Runner.part r.old) lines.old).lines }
 {
     let Some(id) = ending else {
@@ -224,6 +233,7 @@ pub fn run_one<R: Runner>(k: &mut Kernel, r: &mut R, lines: &mut Lines) -> UnitE
     requires empty { lines.old ≡ [] }
     ensures kernel { k.new ≡ (R.Runner.acts k.old r.old).kernel }
     ensures runner { R.Runner.part r.new ≡ R.Runner.part (R.Runner.acts k.old r.old).runner }
+    ensures exact { r.new ≡ (R.Runner.acts k.old r.old).runner }
     ensures lines { lines.new ≡ (R.Runner.acts k.old r.old).lines }
     ensures few { length lines.new ≤ unit_lines }
     ensures ending { result ≡ (R.Runner.acts k.old r.old).ending }
@@ -248,6 +258,7 @@ pub fn settle<R: Runner>(
     requires room { length lines.old + 3 ≤ turn_lines }
     ensures kernel { k.new ≡ (settled ending run.now k.old (R.Runner.part r.old) lines.old).kernel }
     ensures runner { R.Runner.part r.new ≡ (settled ending run.now k.old (R.Runner.part r.old) lines.old).runner }
+    ensures exact { r.new ≡ settled_by R.Runner.cleared_by ending run.now k.old r.old }
     ensures lines { lines.new ≡ (settled ending run.now k.old (R.Runner.part r.old) lines.old).lines }
 {
     match ending {

@@ -20,5 +20,6 @@ returns g c =
     record {
       kernel = unloads_kernel c.args.k.now (g.R.Runner.part c.args.r.now) c.args.id row.loaded c.finish.new.self row.found named.id_of k;
       runner = rw (row.found, c.enter.ensures, g.met.R.Runner.entered_law c.args.r.now c.in-Some.row.domain c.in-Some.row.handler) (ap (λ (x : ModuleRow). entered (g.R.Runner.part c.args.r.now) x.handler) row.is);
+      exact = rw (row.found, c.enter.ensures) (ap (λ (x : ModuleRow). g.R.Runner.entered_by c.args.r.now x.domain x.handler) row.is);
       lines = unloads_lines c.args.k.now (g.R.Runner.part c.args.r.now) c.args.id row.loaded c.finish.new.lines row.found named.id_of lines;
     }
