@@ -4,5 +4,5 @@ mod Pairs
 mod Ranges
 mod Spelling
 mod Steps
-mod Times
+pub mod Times
 mod Words

@@ -12,7 +12,7 @@ use Rattle.domain_model.specs.Good.{AreTimesFrom, AreTimes, ArePackets}
 use Rattle.domain_model.specs.Events.{at_time, onto_events, loader_events, event_times, packet_at, onto_packets, packets_in, packet_times}
 use Rattle.event_script.specs.Numbers.{last_time}
 use Rattle.event_script.specs.Refusals.{refusal_of, events_of}
-use Rattle.event_script.specs.Spelled.{AreInOrder, AsksInRange, IsInRange}
+use Rattle.event_script.specs.Spelled.{AreEvents, AreInOrder, AsksInRange, IsInRange}
 use Rattle.event_script.proofs.Ranges.{scripts_have_events}
 
 earlier_from : (low before : ℕ) (times : List ℕ) → low ≤ before → AreTimesFrom before times → AreTimesFrom low times
@@ -86,12 +86,13 @@ pub record MayRun (events : List Event) : Type 0 where
   pub packet_times : AreTimes (packet_times (packets_in events))
   pub packets : ArePackets (packets_in events)
 
+pub events_run : (images : ℕ) (events : List Event) → AreEvents images events → MayRun events
+events_run images events good = record {
+  times = times_from images 0 events (all_from_zero events) good.order good.ranges;
+  packet_times = heard_from images 0 events (all_from_zero events) good.order good.ranges;
+  packets = packets_are images events good.ranges;
+}
+
 pub script_runs : (images : ℕ) (text : List ℕ) (events : List Event) → refusal_of images text ≡ None → events ≡ events_of text → MayRun events
 script_runs images text events none are =
-    let good = scripts_have_events images text none in
-    let all = all_from_zero (events_of text) in
-    subst MayRun (sym are) (record {
-      times = times_from images 0 (events_of text) all good.order good.ranges;
-      packet_times = heard_from images 0 (events_of text) all good.order good.ranges;
-      packets = packets_are images (events_of text) good.ranges;
-    })
+    subst MayRun (sym are) (events_run images (events_of text) (scripts_have_events images text none))

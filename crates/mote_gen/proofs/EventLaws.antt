@@ -1,9 +1,10 @@
 -- The events are such as a script can have.
-use Rattle.std.proofs.Common.{◌≡◌, ℕ, zero, suc, ◌+◌, ◌-◌, ◌*◌, ◌<◌, ◌≤◌, List, [], ◌∷◌, ◌++◌, length, length-append, map, refl, ap, arith}
+use Rattle.std.proofs.Common.{◌≡◌, ℕ, zero, suc, ◌+◌, ◌-◌, ◌*◌, ◌<◌, ◌≤◌, List, [], ◌∷◌, ◌++◌, length, length-append, map, refl, sym, subst, ap, ◌∙◌, arith}
 use Rattle.std.specs.List.{AllByRecursion, range_with_len}
 use Rattle.std.proofs.lemmas.List.FromFn.{length-map-range_with_len}
 use Rattle.domain_model.specs.declared.script.Event.{Event}
 use Rattle.event_script.specs.Spelled.{AreEvents, AreInOrder, IsInRange}
+use Rattle.event_script.proofs.Times.{MayRun, events_run}
 use Rattle.mote_gen.specs.Numbers.{draw, from, module_count, packet_count}
 use Rattle.mote_gen.specs.Packets.{byte_bound, events_of, first_loads, first_packets, load_of, loads, packet_at, packet_bytes, packets_of, place_of, rise_bound, time_after}
 use Rattle.mote_gen.proofs.Lists.{all_append, all_from}
@@ -87,3 +88,8 @@ are_events numbers = record {
       (loads_in_range module_count (omega arith)) (packets_in_range numbers packet_count (omega arith));
   few = omega (arith, length-append loads (packets_of numbers), length-first_loads module_count, length-first_packets numbers packet_count);
 }
+
+-- With all packets they may stand in a run.
+pub may_run : (numbers : List ℕ) (count : ℕ) (events : List Event) → count ≡ packet_count → events ≡ loads ++ first_packets numbers count → MayRun events
+may_run numbers count events all are =
+    subst MayRun (sym (are ∙ ap (λ n. loads ++ first_packets numbers n) all)) (events_run module_count (events_of numbers) (are_events numbers))

@@ -1,5 +1,7 @@
 //! What a seed makes.
 ghost use Rattle.std.specs.Prelude.{◌≡◌, IfOk};
+ghost use Rattle.domain_model.specs.Events.{event_times, loader_events, packet_times, packets_in};
+ghost use Rattle.domain_model.specs.Good.{ArePackets, AreTimes};
 ghost use Rattle.mote_gen.specs.Bundle.{files_of, images_of};
 ghost use Rattle.mote_gen.specs.Numbers.{numbers_of};
 ghost use Rattle.mote_gen.specs.Packets.{events_of};
@@ -22,6 +24,11 @@ pub struct Bundle {
 pub fn make(alloc: Global, seed: u32) -> Result<Bundle, NoMemory>
     ensures images { IfOk result (λ bundle. files_of bundle.images.items ≡ images_of (numbers_of seed)) }
     ensures events { IfOk result (λ bundle. bundle.script.events.items ≡ events_of (numbers_of seed)) }
+
+    // A mote takes the events.
+    ensures packets { IfOk result (λ bundle. ArePackets (packets_in bundle.script.events.items)) }
+    ensures packet_times { IfOk result (λ bundle. AreTimes (packet_times (packets_in bundle.script.events.items))) }
+    ensures times { IfOk result (λ bundle. AreTimes (event_times (loader_events bundle.script.events.items))) }
 {
     let mut numbers = Numbers { last: seed };
     let images = modules(alloc, &mut numbers)?;

@@ -2,6 +2,7 @@ use Rattle.std.proofs.Common.{◌≡◌, ◌+◌, ◌++◌, ◌∙◌, ap, sym, 
 use Rattle.mote_gen.specs.Numbers.{number, numbers_of, packet_draws}
 use Rattle.mote_gen.specs.Packets.{loads, place_of, time_after}
 use Rattle.mote_gen.proofs.Drawn.{number_later}
+use Rattle.mote_gen.proofs.EventLaws.{may_run}
 use Rattle.mote_gen.proofs.Events.{first_packets-zero, packets_more, time_after-zero, time_more, what_is}
 use Rattle.mote_gen.proofs.bundle.make.Goals as goal
 
@@ -26,3 +27,12 @@ loop-place-preserved c =
           ∙ packets_more _ c.loop-place.place loads _ _ c.loop-place.invariant.events more
           (c.packet-event.ensures.what ∙ what_is _ _ c.loop-place.place (omega arith) c.loop-place.invariant.last);
     }
+
+pub returns-clause-packets : goal.returns-clause-packets
+returns-clause-packets c = (may_run _ c.loop-place.place _ (omega arith) c.loop-place.invariant.events).packets
+
+pub returns-clause-packet_times : goal.returns-clause-packet_times
+returns-clause-packet_times c = (may_run _ c.loop-place.place _ (omega arith) c.loop-place.invariant.events).packet_times
+
+pub returns-clause-times : goal.returns-clause-times
+returns-clause-times c = (may_run _ c.loop-place.place _ (omega arith) c.loop-place.invariant.events).times
