@@ -1,5 +1,5 @@
 //! The lines that one turn writes.
-ghost use Rattle.std.specs.Prelude.{◌≡◌, ◌<◌, [], ◌∷◌, ◌++◌, length, IfOk};
+ghost use Rattle.std.specs.Prelude.{◌≡◌, ◌<◌, ◌≤◌, [], ◌∷◌, ◌++◌, length, IfOk};
 ghost use Rattle.mote_layout.specs.Limits.{turn_lines};
 
 use crate::line::TraceLine;
@@ -42,7 +42,8 @@ impl Lines {
     }
 
     pub fn items(&self) -> &[TraceLine]
-        ensures { result.now ≡ self.now }
+        ensures items { result.now ≡ self.now }
+        ensures few { length self.now ≤ turn_lines }
     {
         self.items.as_slice()
     }
