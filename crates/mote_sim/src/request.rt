@@ -42,11 +42,7 @@ fn tool_of(verb: &Word) -> Option<Tool>
 }
 
 // `gen`, of the seed that is the one operand.
-fn generation(
-    units: Option<u64>,
-    handler: Option<u64>,
-    operands: &Operands<'_>,
-) -> Option<Kind>
+fn generation(units: Option<u64>, handler: Option<u64>, operands: &Operands<'_>) -> Option<Kind>
     ensures { result ≡ generation units handler operands.now }
 {
     if units.is_some() || handler.is_some() || operands.len() != 1 {
