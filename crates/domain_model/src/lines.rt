@@ -41,14 +41,7 @@ impl Lines {
         self.items.clear();
     }
 
-    /// How many lines there are.
-    pub fn len(&self) -> usize
-        ensures count { result ≡ length self.now }
-        ensures few { result ≤ turn_lines }
-    {
-        self.items.len()
-    }
-
+    /// The lines, in their order.
     pub fn items(&self) -> &[TraceLine]
         ensures items { result.now ≡ self.now }
         ensures few { length self.now ≤ turn_lines }
