@@ -1,17 +1,20 @@
 -- Runners: what a unit does where a runner keeps the units and the place in them in its own way.
-use Rattle.std.specs.Prelude.{ℕ, List, filter, not, Bool, true, false}
-use Rattle.unit_code.specs.declared.unit.Unit.{Unit}
-use Rattle.unit_code.specs.Proper.{IsProper}
+use Rattle.std.specs.Prelude.{ℕ, ◌≤◌, List, [], length, filter, not, Bool, true, false}
+use Rattle.mote_layout.specs.Memory.{bank_words}
+use Rattle.unit_code.specs.Listing.{BankListing}
+use Rattle.unit_code.specs.Spelling.{Spells}
 use Rattle.domain_model.specs.declared.fault.UnitEnd.{UnitEnd}
 use Rattle.domain_model.specs.declared.line.TraceLine.{TraceLine}
 use Rattle.domain_model.specs.declared.line.TraceLine.TheVariants as line
 use Rattle.domain_model.specs.State.{KernelState, RunnerState}
 use Rattle.domain_model.specs.Act.{Acted}
 
--- Code that a runner may be given: units that are proper, in an image that is sealed or in one that isn't.
-pub record ArePlaceable (units : List Unit) : Type 0 where
+-- Code that a runner may be given: proper units, of an image that is sealed or of one that isn't, and words that fit a bank of
+-- flash and spell these units, with the start of each one's template.
+pub record IsPlaceable (code : BankListing) : Type 0 where
   pub sealed : Bool
-  pub proper : IsProper units sealed
+  pub spelled : Spells code.words [] sealed code.units code.starts
+  pub fits : length code.words ≤ bank_words
 
 -- the most lines that a unit writes by a runner: its own, and those of the instructions that it runs
 abbrev pub unit_lines : ℕ

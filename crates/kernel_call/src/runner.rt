@@ -6,7 +6,7 @@ ghost use Rattle.domain_model.specs.State.{KernelState, RunnerState};
 ghost use Rattle.domain_model.specs.Act.{bank};
 ghost use Rattle.domain_model.specs.Free.{UnitStep};
 ghost use Rattle.domain_model.specs.Good.{GoodMachine};
-ghost use Rattle.domain_model.specs.Runners.{ActedBy, ArePlaceable, unit_by, unit_lines};
+ghost use Rattle.domain_model.specs.Runners.{ActedBy, IsPlaceable, unit_by, unit_lines};
 ghost use Rattle.domain_model.specs.Turn.{placed, emptied, entered};
 
 use crate::kernel::Kernel;
@@ -41,7 +41,7 @@ pub trait Runner: Drop {
     /// Puts the code of a module into a domain.
     fn place(&mut self, domain: u8, code: &BankCode)
         requires domain { domain < domain_count }
-        requires proper { ArePlaceable code.now.units }
+        requires placeable { IsPlaceable code.now }
         ensures { self.new ≡ placed_by self.old domain code.now };
 
     /// Takes the code of a domain out.
