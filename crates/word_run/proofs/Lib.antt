@@ -1,1 +1,6 @@
 pub mod FewLines
+pub mod SecondWords
+pub mod Fetched
+pub mod Laid
+pub mod Steps
+pub mod Same
