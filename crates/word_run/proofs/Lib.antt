@@ -4,3 +4,5 @@ pub mod Fetched
 pub mod Laid
 pub mod Steps
 pub mod Same
+pub mod Setting
+pub mod Moves
