@@ -6,3 +6,5 @@ pub mod Steps
 pub mod Same
 pub mod Setting
 pub mod Moves
+pub mod PlainUnits
+pub mod Guarded
