@@ -4,6 +4,8 @@ pub mod Reading
 pub mod Refusal
 pub mod Tools
 pub mod Trace
+pub mod Summary
+pub mod Generating
 pub mod Listing
 pub mod Outcome
 pub mod Ending

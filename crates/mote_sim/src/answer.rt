@@ -1,32 +1,30 @@
 //! The top call.
-ghost use Rattle.std.specs.Prelude.{◌≡◌, ◌≤◌, ◌⊎◌, IfOk, IsTrue, length, map, Some, None, Bool, true, false, List, ℕ};
-ghost use Rattle.std.specs.List.{AllByRecursion};
+ghost use Rattle.std.specs.Prelude.{◌≡◌, ◌≤◌, ◌⊎◌, IsTrue, length, Some, None, Bool, true, false, List, ℕ};
 ghost use Rattle.mote_base.specs.Causes.{Rose};
 ghost use Rattle.mote_base.specs.Files.{Named};
 ghost use Rattle.mote_base.specs.Written.{Grows};
 ghost use Rattle.mote_layout.specs.Limits.{unit_limit, handler_limit};
 ghost use Rattle.command_line.specs.Command.{command_of, takes, IsWithinLimits};
-ghost use Rattle.domain_model.specs.Good.{ArePackets, AreTimes, IsGoodImage};
+ghost use Rattle.domain_model.specs.Good.{ArePackets, AreTimes};
 ghost use Rattle.domain_model.specs.Events.{event_times, loader_events, packet_times, packets_in};
-ghost use Rattle.domain_model.specs.Prepared.{prepared};
 ghost use Rattle.event_script.specs.Refusals.{events_of, refusal_of};
-ghost use Rattle.mod_loader.specs.Banks.{prepared_of};
 ghost use Rattle.mote_sim.specs.Asking.{AsksBy, AsksFront, Came};
-ghost use Rattle.mote_sim.specs.Clauses.{WritesRun, WritesTool, RefusesFiles, HasStatus, WritesFront};
+ghost use Rattle.mote_sim.specs.Clauses.{WritesRun, WritesTool, WritesSummary, RefusesFiles, HasStatus, WritesFront};
 ghost use Rattle.mote_sim.specs.Ending.{Ends, IsAnswer, Answered, CutOff};
 ghost use Rattle.mote_sim.specs.Outcome.{Answers, AnswersOver, Runs, outcome, outcome_by, outcome_of_script, usage_line};
-ghost use Rattle.mote_sim.specs.Playing.{StandsAt};
 ghost use Rattle.mote_sim.specs.Reading.{Admits, AdmitsEach, bytes_of};
 ghost use Rattle.mote_sim.specs.Tools.{TellsOf};
 ghost use Rattle.mote_sim.specs.Trace.{run_input};
 ghost use Rattle.mote_sim.specs.Pieces.{LeadsBySome};
 
 use crate::assembling::{write_module, write_text};
+use crate::generating::generate;
 use crate::judging::judge;
 use crate::listing::list;
 use crate::one_line::{put_answer, put_script, put_size};
 use crate::operands::Operands;
 use crate::play::play;
+use crate::preparing::prepare;
 use crate::reading::{ReadStop, read_files};
 use crate::request::{Request, request_of};
 use crate::rewriting::write_rewritten;
@@ -34,43 +32,9 @@ use crate::sealing::{seal, upgrade};
 use command_line::{Kind, Tool};
 use domain_model::Lines;
 use event_script::{Script, ScriptError, parse_script};
-use mod_loader::Ready;
-use mote_base::{NoMemory, Shelf, Sink, Status, Word};
-use mote_core::{Limits, Mote};
+use mote_base::{Shelf, Sink, Status, Word};
+use mote_core::Limits;
 use std::alloc::Global;
-use unit_run::PlainRunner;
-
-// The images of these files, prepared for their loads.
-fn prepare_images(alloc: Global, files: &[Vec<u8>]) -> Result<Vec<Ready>, NoMemory>
-    ensures prepared { IfOk result (λ images. map prepared_of images.items ≡ map prepared (bytes_of files.now)) }
-    ensures good { IfOk result (λ images. AllByRecursion IsGoodImage (map prepared_of images.items)) }
-{
-    let mut images = Vec::new(alloc);
-    for file in files {
-        images.push(Ready::new(alloc, file)?)?;
-    }
-    Ok(images)
-}
-
-// A mote at the start of the run of a script over its images within these limits.
-fn prepare(
-    alloc: Global,
-    limits: Limits,
-    script: Script,
-    images: &[Vec<u8>],
-) -> Result<Mote<PlainRunner>, NoMemory>
-    requires units { limits.units ≤ unit_limit }
-    requires handler { (1 ≤ limits.handler) × (limits.handler ≤ handler_limit) }
-    requires packets { ArePackets (packets_in script.events.items) }
-    requires packet_times { AreTimes (packet_times (packets_in script.events.items)) }
-    requires times { AreTimes (event_times (loader_events script.events.items)) }
-    ensures { IfOk result (λ mote. StandsAt mote
-        (run_input limits.units limits.handler (bytes_of images.now) script.events.items)) }
-{
-    let images = prepare_images(alloc, images)?;
-    let runner = PlainRunner::new(alloc)?;
-    Mote::new(alloc, images, script, limits, runner)
-}
 
 // Runs the events of a script over its images. All memory is taken before the first line is put.
 fn run_script<K: Sink>(
@@ -155,6 +119,7 @@ fn perform<K: Sink>(alloc: Global, kind: Kind, files: &[Vec<u8>], out: &mut K) -
             [file] => make(alloc, tool, file, out),
             _ => unreachable!(),
         },
+        Kind::Generation { seed } => generate(alloc, seed, out),
     }
 }
 
@@ -207,8 +172,9 @@ fn answer<F: Shelf, K: Sink>(alloc: Global, words: &[Word], shelf: &mut F, out: 
 /// `upgrade IMAGE` writes the file of an image of the first version in the second, and `seal IMAGE` that of an image
 /// which is neither rewritten nor sealed, sealed. `rewrite IMAGE` writes an original image with each store, stack change
 /// and call of its code checked, and `verify IMAGE` says how many units the words of such an image spell. `asm TEXT` writes
-/// the image of a module's text, and `source IMAGE` the text of an original image. All memory is taken before the first
-/// byte is written.
+/// the image of a module's text, and `source IMAGE` the text of an original image. `gen SEED` runs the images and the script
+/// that the seed makes, and writes how many units ran, how many lines of a kind a trace of the run has, and how it ended.
+/// All memory is taken before the first byte is written.
 pub fn mote_main<F: Shelf, K: Sink>(
     alloc: Global,
     words: &[Word],
@@ -230,6 +196,11 @@ pub fn mote_main<F: Shelf, K: Sink>(
         command_of words.now ≡ Some (record { kind = Kind.Tool tool; files = names }) →
         F.files shelf.old ≡ Some fs → K.written out.old ≡ Some before →
         WritesTool tool names fs before (K.written out.new) }
+
+    // Of `gen` they are the summary of a lawful run of what its seed makes.
+    ensures generator { result ≡ Status.Done → (seed : ℕ) (names : List (List ℕ)) (before : List ℕ) →
+        command_of words.now ≡ Some (record { kind = Kind.Generation seed; files = names }) →
+        K.written out.old ≡ Some before → WritesSummary seed before (K.written out.new) }
 
     // Usage: the words are no command. No command has another answer, but where the put of its line fails.
     ensures usage { result ≡ Status.Usage → (command_of words.now ≡ None)
@@ -261,8 +232,10 @@ pub fn mote_main<F: Shelf, K: Sink>(
     ensures failed_call { result ≡ Status.ReadFault →
         AsksFront F.leads shelf.old shelf.new (command_of words.now) false }
 
-    // Words that are no command ask for no call.
+    // Words that are no command ask for no call, and neither does `gen`.
     ensures no_calls { command_of words.now ≡ None → shelf.new ≡ shelf.old }
+    ensures no_files { (seed : ℕ) (names : List (List ℕ)) →
+        command_of words.now ≡ Some (record { kind = Kind.Generation seed; files = names }) → shelf.new ≡ shelf.old }
 
     // A fault of writing has its cause, a front of an output that answers was written, and no put follows.
     ensures write_fault { result ≡ Status.WriteFault → Rose (K.faults out.old) (K.faults out.new)

@@ -78,8 +78,8 @@ fn tell_lines<K: Sink>(
     Ok(())
 }
 
-// Makes one turn of a mote whose runner runs the units themselves: each of its lines is one of the machine's.
-fn make_turn(mote: &mut Mote<PlainRunner>, lines: &mut Lines) -> Turned
+/// Makes one turn of a mote whose runner runs the units themselves: each of its lines is one of the machine's.
+pub fn make_turn(mote: &mut Mote<PlainRunner>, lines: &mut Lines) -> Turned
     requires { lines.old ≡ [] }
     ensures lawful { LawfulTurn (plain_state mote.old) (plain_state mote.new) lines.new }
     ensures ended { result ≡ mote.new.ended }

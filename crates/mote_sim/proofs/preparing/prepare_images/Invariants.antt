@@ -4,7 +4,7 @@ use Rattle.domain_model.specs.Good.{IsGoodImage}
 use Rattle.domain_model.specs.Prepared.{prepared}
 use Rattle.mod_loader.specs.Banks.{prepared_of}
 use Rattle.mote_sim.specs.Reading.{bytes_of}
-use Rattle.mote_sim.proofs.answer.prepare_images.Given as goal
+use Rattle.mote_sim.proofs.preparing.prepare_images.Given as goal
 
 -- the images so far are ready
 abbrev pub invariant-loop-file : goal.invariant-loop-file

@@ -1,0 +1,32 @@
+-- A run of what a seed makes, summed up.
+use Rattle.std.specs.Prelude.{◌≡◌, ℕ, List}
+use Rattle.domain_model.specs.declared.line.TraceLine.{TraceLine}
+use Rattle.domain_model.specs.Laws.{LawfulRunFrom}
+use Rattle.domain_model.specs.State.{State, Input}
+use Rattle.domain_model.specs.Turn.{RunBy, over, more}
+use Rattle.mote_gen.specs.Generated.{generated}
+use Rattle.mote_sim.specs.declared.summary.Summary.{Summary}
+use Rattle.mote_sim.specs.Summary.{summary_of, summary_text}
+use Rattle.mote_sim.specs.Trace.{IsLawfulRun}
+
+-- the state in which the turns of a run come to its end
+abbrev pub last_of : {T : State → State → List TraceLine → Type 0} {s : State} {lines : List TraceLine} → RunBy T s lines → State
+last_of {s = s} (over ended) = s
+last_of (more t lines rest live turn run) = last_of run
+
+-- It sums up a lawful run from this state, and one of this input.
+pub record SumsUpFrom (first : State) (summary : Summary) : Type 0 where
+  pub lines : List TraceLine
+  pub run : LawfulRunFrom first lines
+  pub is : summary ≡ summary_of lines (last_of run)
+
+pub record SumsUp (i : Input) (summary : Summary) : Type 0 where
+  pub lines : List TraceLine
+  pub run : IsLawfulRun i lines
+  pub is : summary ≡ summary_of lines (last_of run.lawful)
+
+-- The text of the summary of a run of what the seed makes.
+pub record IsSummaryOf (seed : ℕ) (text : List ℕ) : Type 0 where
+  pub summary : Summary
+  pub sums_up : SumsUp (generated seed) summary
+  pub spelled : text ≡ summary_text seed summary
