@@ -1,7 +1,8 @@
 //! A module that may be loaded.
 ghost use Rattle.std.specs.Prelude.{◌≡◌};
 ghost use Rattle.domain_model.specs.Good.{GoodImage};
-ghost use Rattle.mod_loader.specs.Banks.{SpellUnits, code_of};
+ghost use Rattle.domain_model.specs.Runners.{IsPlaceable};
+ghost use Rattle.mod_loader.specs.Banks.{code_of};
 
 use arrayvec::ArrayVec;
 use module_image::Face;
@@ -81,7 +82,7 @@ impl Loadable {
     /// The code of its bank: its units, with words that spell them.
     pub fn code(&self) -> &BankCode
         ensures code { result.now ≡ code_of self.now }
-        ensures spelled { SpellUnits result.now self.now.loadable.sealed }
+        ensures placeable { IsPlaceable result.now }
     {
         &self.code
     }

@@ -1,10 +1,11 @@
 //! Images that were prepared for their loads.
-ghost use Rattle.std.specs.Prelude.{◌≡◌, Bool, IfOk, IfSome, MatchOption, None, Some};
+ghost use Rattle.std.specs.Prelude.{◌≡◌, IfOk, IfSome, MatchOption, None, Some};
 ghost use Rattle.module_image.specs.Contents.{Contents};
 ghost use Rattle.module_image.specs.Spelling.{Image};
 ghost use Rattle.domain_model.specs.Good.{IsGoodImage};
 ghost use Rattle.domain_model.specs.Prepared.{prepared};
-ghost use Rattle.mod_loader.specs.Banks.{HasItsWords, SpellUnits, bank_of, prepared_of};
+ghost use Rattle.domain_model.specs.Runners.{IsPlaceable};
+ghost use Rattle.mod_loader.specs.Banks.{HasItsWords, bank_of, prepared_of};
 
 use crate::loadable::Loadable;
 use crate::preparing::prepared_contents;
@@ -51,7 +52,7 @@ impl Ready {
     /// The code of the module's bank: its units, with words that spell them. None exactly where the file holds no module.
     pub fn bank(&self) -> Option<&BankCode>
         ensures code { MatchOption result (bank_of self.now ≡ None) (λ code. bank_of self.now ≡ Some code.now) }
-        ensures spelled { IfSome result (λ code. (sealed : Bool) × SpellUnits code.now sealed) }
+        ensures placeable { IfSome result (λ code. IsPlaceable code.now) }
     {
         match &self.prepared {
             Ok(loadable) => Some(loadable.code()),

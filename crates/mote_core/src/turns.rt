@@ -6,7 +6,7 @@ ghost use Rattle.mote_layout.specs.Memory.{domain_count};
 ghost use Rattle.domain_model.specs.Free.{UnitStep, ends_handler};
 ghost use Rattle.domain_model.specs.Good.{GoodMachine};
 ghost use Rattle.domain_model.specs.Modules.{id_at, in_use, module_at, module_named};
-ghost use Rattle.domain_model.specs.Runners.{ArePlaceable, unit_by, unit_lines};
+ghost use Rattle.domain_model.specs.Runners.{IsPlaceable, unit_by, unit_lines};
 ghost use Rattle.domain_model.specs.Turn.{begun, came, close, dispatch, entered, faulted, init_to, load_prepared, placed, settled, unload_module};
 ghost use Rattle.mod_loader.specs.Banks.{prepared_of};
 ghost use Rattle.mod_loader.specs.Loads.{load_detail, load_kind, load_number, load_value};
@@ -148,7 +148,7 @@ fn start<R: Runner>(bank: &BankCode, domain: u8, k: &mut Kernel, r: &mut R, line
     requires domain { domain < domain_count }
     requires used { in_use k.old.modules domain ≡ true }
     requires banks { length (R.Runner.part r.old).banks ≡ domain_count }
-    requires proper { ArePlaceable bank.now.units }
+    requires placeable { IsPlaceable bank.now }
     requires handler { IfSome (module_at k.old.modules domain) (λ m. m.handler < length bank.now.units) }
     ensures kernel { IfSome (module_at k.old.modules domain)
         (λ m. k.new ≡ begun k.old m.domain m.state m.constants (init_to m.face.id)) }

@@ -7,4 +7,4 @@ use Rattle.unit_run.proofs.runner.PlainRunnerRunner.place.Goals as goal
 pub fill-requires-clause-fits : goal.fill-requires-clause-fits
 fill-requires-clause-fits c =
     rw c.deref.ensures.value
-    (subst (λ (b : BankListing). length b.units ≤ bank_words) (sym c.code.view_is) (proper_fits c.args.code.now.units c.requires.proper.proper))
+    (subst (λ (b : BankListing). length b.units ≤ bank_words) (sym c.code.view_is) (proper_fits c.args.code.now.units c.requires.placeable.spelled.proper))

@@ -1,0 +1,6 @@
+pub mod FlashValue
+pub mod Entries
+pub mod WordRun
+pub mod CanRun
+pub mod Writing
+pub mod Laws
