@@ -14,7 +14,9 @@ pub enum Kind {
     /// Make one file of another.
     Tool(Tool),
     /// Run the input that a seed makes, and sum the run up.
-    Generation { seed: u32 },
+    Generation {
+        seed: u32,
+    },
 }
 
 /// What a command makes that takes one file and no options.
