@@ -4,7 +4,9 @@ pub mod Ends
 pub mod Far
 pub mod Fronts
 pub mod Gather
+pub mod Counting
 pub mod Counts
+pub mod Unasked
 pub mod Inversion
 pub mod Judged
 pub mod OneFile

@@ -1,5 +1,6 @@
 -- The summary of a run.
-use Rattle.std.specs.Prelude.{ℕ, ◌+◌, ◌^◌, ◌<◌, Bool, true, false, List, [], ◌++◌, length, filter, codes}
+use Rattle.std.specs.Prelude.{ℕ, ◌+◌, ◌^◌, ◌<◌, Bool, true, false, List, ◌++◌, codes}
+use Rattle.std.specs.List.{count_by}
 use Rattle.domain_model.specs.declared.event.Turned.{Turned}
 use Rattle.domain_model.specs.declared.event.Turned.TheVariants.{More, EndIdle, EndBudget}
 use Rattle.domain_model.specs.declared.line.TraceLine.{TraceLine}
@@ -31,27 +32,24 @@ abbrev pub is_fault : TraceLine → Bool
 is_fault (line.Fault time rule id unit address) = true
 is_fault _ = false
 
--- how many of the lines are of a kind
-abbrev pub count_of : (TraceLine → Bool) → List TraceLine → ℕ
-count_of is_of_kind lines = length (filter is_of_kind lines)
-
+-- how many of the lines are of each kind
 abbrev pub tally_of : List TraceLine → Tally
 tally_of lines = record {
-  loads = count_of is_load lines;
-  runs = count_of is_run lines;
-  queued = count_of is_queued lines;
-  drops = count_of is_drop lines;
-  faults = count_of is_fault lines;
+  loads = count_by is_load lines;
+  runs = count_by is_run lines;
+  queued = count_by is_queued lines;
+  drops = count_by is_drop lines;
+  faults = count_by is_fault lines;
 }
 
 -- A tally with further lines, and a tally whose numbers can be kept.
 abbrev pub with_lines : Tally → List TraceLine → Tally
 with_lines t lines = record {
-  loads = t.loads + count_of is_load lines;
-  runs = t.runs + count_of is_run lines;
-  queued = t.queued + count_of is_queued lines;
-  drops = t.drops + count_of is_drop lines;
-  faults = t.faults + count_of is_fault lines;
+  loads = t.loads + count_by is_load lines;
+  runs = t.runs + count_by is_run lines;
+  queued = t.queued + count_by is_queued lines;
+  drops = t.drops + count_by is_drop lines;
+  faults = t.faults + count_by is_fault lines;
 }
 
 pub record IsKept (t : Tally) : Type 0 where
