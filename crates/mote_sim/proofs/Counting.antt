@@ -107,14 +107,20 @@ counted_turn {first = first} {here = here} {tally = tally} c there lines items n
   few = omega (arith, c.few, falls, short, length-append c.told lines);
 }
 
+abbrev summary_with : ℕ → Tally → Turned → Summary
+summary_with units tally ended = record { units = units; tally = tally; ended = ended }
+
+same_summary : (u u' : ℕ) (t t' : Tally) (e e' : Turned) → u ≡ u' → t ≡ t' → e ≡ e' → summary_with u t e ≡ summary_with u' t' e'
+same_summary u u' t t' e e' units tally ended = ap (λ n. summary_with n t e) units ∙ ap (λ x. summary_with u' x e) tally ∙ ap (λ x. summary_with u' t' x) ended
+
 -- the run has ended
-pub counted_over : {first here : State} {tally : Tally} → Counted first here tally → here.ended ≢ More → (summary : Summary) → summary ≡ record { units = here.total; tally = tally; ended = here.ended } → SumsUpFrom first summary
-counted_over {first = first} {here = here} {tally = tally} c ended summary is =
+pub counted_over : {first here : State} {tally : Tally} → Counted first here tally → here.ended ≢ More → (units : ℕ) (turned : Turned) → units ≡ here.total → turned ≡ here.ended → SumsUpFrom first (record { units = units; tally = tally; ended = turned })
+counted_over {first = first} {here = here} {tally = tally} c ended units turned total same =
     let all = subst (λ ls. (whole : LawfulRunFrom first ls) × (last_of whole ≡ here)) (append-nil c.told) (c.goes_on [] (over ended)) in
     record {
       lines = c.told;
       run = all.0;
-      is = is ∙ ap (λ t. record { units = here.total; tally = t; ended = here.ended }) c.is ∙ ap (λ (s : State). summary_of c.told s) (sym all.1);
+      is = same_summary units here.total tally (tally_of c.told) turned here.ended total c.is same ∙ ap (λ (s : State). summary_of c.told s) (sym all.1);
     }
 
 -- A run goes on or has ended.

@@ -13,6 +13,7 @@ pub mod OneFile
 pub mod PlainTurns
 pub mod Prepared
 pub mod Pushed
+pub mod Seeds
 pub mod SomeBytes
 pub mod Sources
 pub mod Stopped

@@ -11,6 +11,8 @@ use Rattle.trace_text.specs.Text.{texts}
 use Rattle.domain_model.specs.Turn.{is_unstated}
 use Rattle.mote_core.specs.Value.{MoteValue, plain_state}
 use Rattle.mote_sim.specs.Ending.{Answered, CutOff}
+use Rattle.mote_sim.specs.declared.summary.Summary.{Summary}
+use Rattle.mote_sim.specs.Generating.{SumsUp, SumsUpFrom}
 use Rattle.mote_sim.specs.Outcome.{Answers, Runs}
 use Rattle.mote_sim.specs.Playing.{StandsAt, Played, Stopped}
 use Rattle.mote_sim.specs.Trace.{IsLawfulRun}
@@ -30,7 +32,7 @@ same_state free s good = record {
 }
 
 -- A lawful run from where a run begins is a run of the input.
-lawful_run : (s : State) (i : Input) (lines : List TraceLine) → s ≡ start i → Good s → LawfulRunFrom s lines → IsLawfulRun i lines
+abbrev lawful_run : (s : State) (i : Input) (lines : List TraceLine) → s ≡ start i → Good s → LawfulRunFrom s lines → IsLawfulRun i lines
 lawful_run s i lines starts good run = record {
   run = record {
     first = s;
@@ -49,3 +51,7 @@ played_answers {m = m} i stands p = record { text = texts p.lines; answer = trac
 
 pub stopped_cuts : {K : Type 0} {w : K → Option (List ℕ)} {f : K → ℕ} {l : K → List ℕ → Bool → K → Type 0} {a b : K} {m : MoteValue RunnerState} (i : Input) → StandsAt m i → Stopped w f l a b (plain_state m) → CutOff w f l a b 0 0 (Answers (Runs i))
 stopped_cuts {m = m} i stands p = record { status = Done; text = texts p.lines; answer = trace_answers m i p.lines stands p.run; broke = p.broke; calm = refl }
+
+-- What sums up a run from there sums up one of the input.
+pub sums_up : {m : MoteValue RunnerState} {summary : Summary} (i : Input) → StandsAt m i → SumsUpFrom (plain_state m) summary → SumsUp i summary
+sums_up {m = m} i stands s = record { lines = s.lines; run = lawful_run (plain_state m) i s.lines stands.starts stands.good s.run; is = s.is }

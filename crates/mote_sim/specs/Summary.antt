@@ -1,5 +1,5 @@
 -- The summary of a run.
-use Rattle.std.specs.Prelude.{ℕ, ◌+◌, ◌^◌, ◌<◌, Bool, true, false, List, ◌++◌, codes}
+use Rattle.std.specs.Prelude.{ℕ, ◌+◌, ◌^◌, ◌<◌, Bool, true, false, List, [], ◌++◌, codes}
 use Rattle.std.specs.List.{count_by}
 use Rattle.domain_model.specs.declared.event.Turned.{Turned}
 use Rattle.domain_model.specs.declared.event.Turned.TheVariants.{More, EndIdle, EndBudget}

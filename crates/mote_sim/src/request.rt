@@ -42,36 +42,43 @@ fn tool_of(verb: &Word) -> Option<Tool>
 }
 
 // `gen`, of the seed that is the one operand.
-fn generation(units: Option<u64>, handler: Option<u64>, operands: &Operands<'_>) -> Option<Kind>
-    ensures { result ≡ generation units handler operands.now }
+fn generation(
+    units: Option<u64>,
+    handler: Option<u64>,
+    words: bool,
+    operands: &Operands<'_>,
+) -> Option<Kind>
+    ensures { result ≡ generation units handler words operands.now }
 {
-    if units.is_some() || handler.is_some() || operands.len() != 1 {
+    if units.is_some() || handler.is_some() || words || operands.len() != 1 {
         return None;
     }
     let seed = number_in(operands.at(0).text().as_bytes(), 0, u32::MAX.into())?;
     Some(Kind::Generation { seed: seed as u32 })
 }
 
-// The command of that name with these limits and operands.
+// The command of that name with these limits, with the flag or without it, and with these operands.
 fn kind_of(
     verb: &Word,
     units: Option<u64>,
     handler: Option<u64>,
+    words: bool,
     operands: &Operands<'_>,
 ) -> Option<Kind>
-    ensures { result ≡ kind_of verb.now units handler operands.now }
+    ensures { result ≡ kind_of verb.now units handler words operands.now }
 {
     if verb.text() == "run" {
         return Some(Kind::Run {
             units: units.unwrap_or(DEFAULT_UNITS),
             handler: handler.unwrap_or(DEFAULT_HANDLER_UNITS),
+            words,
         });
     }
     if verb.text() == "gen" {
-        return generation(units, handler, operands);
+        return generation(units, handler, words, operands);
     }
-    match (units, handler) {
-        (None, None) => Some(Kind::Tool(tool_of(verb)?)),
+    match (units, handler, words) {
+        (None, None, false) => Some(Kind::Tool(tool_of(verb)?)),
         _ => None,
     }
 }
@@ -144,7 +151,13 @@ fn command_of<'a>(verb: &'a Word, words: &'a [Word]) -> Option<(Kind, Operands<'
     if given.waits() {
         return None;
     }
-    let kind = kind_of(verb, given.units(), given.handler(), given.operands())?;
+    let kind = kind_of(
+        verb,
+        given.units(),
+        given.handler(),
+        given.words(),
+        given.operands(),
+    )?;
     let files = files_of(kind, given.into_operands(), verb);
     takes(kind, files.len()).then_some((kind, files))
 }

@@ -71,7 +71,11 @@ fn seeds_have_32_bits(rt: HostRuntime) -> Result<(), Fail> {
     let mut shelf = Table::read(alloc, "")?.shelf(alloc)?;
     for line in ["gen 0", "gen 4294967295"] {
         let mut out = MemSink::new(alloc, 1000, vec![in alloc]?)?;
-        assert_eq!(rt; answer(alloc, line, &mut shelf, &mut out)?, Status::Done, "{line}");
+        assert_eq!(rt;
+            answer(alloc, line, &mut shelf, &mut out)?,
+            Status::Done,
+            "{line}"
+        );
     }
     Ok(())
 }
