@@ -13,3 +13,6 @@ pub mod PushPop
 pub mod Loads
 pub mod Jumps
 pub mod Skips
+pub mod Zeros
+pub mod KernelCalls
+pub mod Frames
