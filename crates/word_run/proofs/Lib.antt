@@ -16,3 +16,4 @@ pub mod Skips
 pub mod Zeros
 pub mod KernelCalls
 pub mod Frames
+pub mod Groups
