@@ -17,3 +17,5 @@ pub mod Zeros
 pub mod KernelCalls
 pub mod Frames
 pub mod Groups
+pub mod FirstWrites
+pub mod WordLaws
