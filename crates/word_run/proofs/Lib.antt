@@ -8,3 +8,14 @@ pub mod Setting
 pub mod Moves
 pub mod PlainUnits
 pub mod Guarded
+pub mod Stores
+pub mod PushPop
+pub mod Loads
+pub mod Jumps
+pub mod Skips
+pub mod Zeros
+pub mod KernelCalls
+pub mod Frames
+pub mod Groups
+pub mod FirstWrites
+pub mod WordLaws
