@@ -7,7 +7,7 @@
 //! - `generating`: runs of what a seed makes, summed up.
 //! - `images`: images that the top call writes by `upgrade` and `seal`.
 //! - `turns`: turns of a mote of `mote_core` under small limits, by two runners.
-//! - `units`: runs of modules with units and kernel calls of each kind, by the top call and by both runners.
+//! - `units`: runs of modules with units and kernel calls of each kind, by the top call and by each runner.
 //! - `parcels`: runs with payloads, packets and dumps, by the top call.
 //! - `constants`: runs of images with constants; `sealed`: runs of sealed ones; `calls`: runs with calls of functions;
 //!   `timers`: runs with timers.
