@@ -32,7 +32,7 @@ same_state free s good = record {
 }
 
 -- A lawful run from where a run begins is a run of the input.
-lawful_run : (s : State) (i : Input) (lines : List TraceLine) → s ≡ start i → Good s → LawfulRunFrom s lines → IsLawfulRun i lines
+abbrev lawful_run : (s : State) (i : Input) (lines : List TraceLine) → s ≡ start i → Good s → LawfulRunFrom s lines → IsLawfulRun i lines
 lawful_run s i lines starts good run = record {
   run = record {
     first = s;
