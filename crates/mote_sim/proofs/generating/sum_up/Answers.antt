@@ -1,4 +1,4 @@
-use Rattle.std.proofs.Common.{◌≡◌, ◌≢◌, ◌∙◌, sym, ap}
+use Rattle.std.proofs.Common.{◌≡◌, ◌≢◌, ◌∙◌, sym}
 use Rattle.domain_model.specs.declared.event.Turned.TheVariants.{More}
 use Rattle.mote_core.specs.Value.{plain_state}
 use Rattle.mote_sim.proofs.Counting.{counted_kept, counted_over, counted_start, counted_turn, ended_by, live_by}
