@@ -14,4 +14,4 @@
 
 mod laws;
 
-pub use laws::words_write_few_lines;
+pub use laws::{words_run_as_units, words_write_inside};
