@@ -43,3 +43,8 @@ bank_of (Ok b) = Some (code_of b)
 abbrev pub HasItsWords : Readied → Contents → Type 0
 HasItsWords (Err refusal) c = ⊤
 HasItsWords (Ok b) c = AreWordsFor (code_of b) c
+
+-- The words of the module, if there is one, spell its units.
+abbrev pub AreSpelled : Readied → Type 0
+AreSpelled (Err refusal) = ⊤
+AreSpelled (Ok b) = SpellUnits (code_of b) b.loadable.sealed

@@ -2,7 +2,7 @@
 ghost use Rattle.std.specs.Prelude.{◌≡◌};
 ghost use Rattle.domain_model.specs.Good.{GoodImage};
 ghost use Rattle.domain_model.specs.Runners.{IsPlaceable};
-ghost use Rattle.mod_loader.specs.Banks.{code_of};
+ghost use Rattle.mod_loader.specs.Banks.{SpellUnits, code_of};
 
 use arrayvec::ArrayVec;
 use module_image::Face;
@@ -101,9 +101,10 @@ impl Loadable {
         self.sealed
     }
 
-    /// It is one that a kernel takes.
+    /// It is one that a kernel takes, and the words of its bank spell its units.
     pub fn known(&self)
-        ensures { GoodImage self.now.loadable }
+        ensures good { GoodImage self.now.loadable }
+        ensures spelled { SpellUnits (code_of self.now) self.now.loadable.sealed }
     {
         let _face = &self.face;
     }

@@ -5,7 +5,7 @@ ghost use Rattle.module_image.specs.Spelling.{Image};
 ghost use Rattle.domain_model.specs.Good.{IsGoodImage};
 ghost use Rattle.domain_model.specs.Prepared.{prepared};
 ghost use Rattle.domain_model.specs.Runners.{IsPlaceable};
-ghost use Rattle.mod_loader.specs.Banks.{HasItsWords, bank_of, prepared_of};
+ghost use Rattle.mod_loader.specs.Banks.{AreSpelled, HasItsWords, bank_of, prepared_of};
 
 use crate::loadable::Loadable;
 use crate::preparing::prepared_contents;
@@ -37,6 +37,7 @@ impl Ready {
         ensures good { IfOk result (λ r. IsGoodImage (prepared_of r)) }
         // The words of its bank are the image's own where a rewriter made it, and else those that the rewriter gives.
         ensures words { IfOk result (λ r. (c : Contents) → Image file.now c → HasItsWords r c) }
+        ensures spelled { IfOk result AreSpelled }
     {
         match parse(file) {
             Err(error) => Ok(Ready {
@@ -44,7 +45,9 @@ impl Ready {
             }),
             Ok(image) => {
                 let prepared = prepared_contents(alloc, &image)?;
-                Ok(Ready { prepared })
+                let ready = Ready { prepared };
+                ready.known();
+                Ok(ready)
             }
         }
     }
@@ -60,9 +63,10 @@ impl Ready {
         }
     }
 
-    /// Its module, if it holds one, is one that a kernel takes.
+    /// Its module, if it holds one, is one that a kernel takes, and its words spell its units.
     pub fn known(&self)
-        ensures { IsGoodImage (prepared_of self.now) }
+        ensures good { IsGoodImage (prepared_of self.now) }
+        ensures spelled { AreSpelled self.now }
     {
         if let Ok(loadable) = &self.prepared {
             loadable.known();

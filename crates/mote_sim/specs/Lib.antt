@@ -3,6 +3,8 @@ pub mod Request
 pub mod Reading
 pub mod Refusal
 pub mod Tools
+pub mod Turns
+pub mod WordRun
 pub mod Trace
 pub mod Listing
 pub mod Outcome
