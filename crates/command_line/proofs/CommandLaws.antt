@@ -15,7 +15,7 @@ use Rattle.command_line.specs.declared.command.Setting.{Setting}
 use Rattle.command_line.specs.declared.command.Setting.TheVariants.{Units, Handler}
 use Rattle.command_line.specs.declared.command.Place.{Place}
 use Rattle.command_line.specs.declared.command.Place.TheVariants.{Options, Value, Operands}
-use Rattle.command_line.specs.Command.{Command, Item, Operand, Joined, Apart, IsItem, IsCommand, Given, CommandsAreByRules, CommandsAreWithinLimits, IsWithinLimits, greatest, without_limits, tool_of, takes, kind_of, is_option, end_of_options, name_of, front_of, value_of, written, operands, value_for, values, none_or_one, ended, nothing_given, units_given, handler_given, with_value, with_operand, with_place, behind_front, with_joined, with_option, with_any, with_word, given_by, with_files, command_at, command_with, command_of}
+use Rattle.command_line.specs.Command.{Command, Item, Operand, Flag, Joined, Apart, IsItem, IsCommand, Given, CommandsAreByRules, CommandsAreWithinLimits, IsWithinLimits, greatest, without_options, tool_of, takes, kind_of, is_option, end_of_options, name_of, front_of, flag, value_of, written, operands, value_for, values, none_or_one, flags, zero_or_one, ended, nothing_given, units_given, handler_given, flag_given, with_value, with_operand, with_place, behind_front, with_joined, with_option, with_any, with_word, given_by, with_files, command_at, command_with, command_of}
 
 -- Texts that are the same, and texts that are not.
 same_text : (xs ys : List ℕ) → bytes_eq xs ys ≡ true → xs ≡ ys
@@ -50,6 +50,7 @@ record Sorted (words : List (List ℕ)) (g t : Given) : Type 0 where
   each : AllByRecursion IsItem items
   units : none_or_one t.units ≡ none_or_one g.units ++ values Units items
   handler : none_or_one t.handler ≡ none_or_one g.handler ++ values Handler items
+  flagged : zero_or_one t.words ≡ zero_or_one g.words + flags items
   files : t.files ≡ g.files ++ (operands items ++ unwrap_or behind [])
 
 -- The text is the value of that option, and then come these words.
@@ -62,6 +63,7 @@ record Took (setting : Setting) (text : List ℕ) (words : List (List ℕ)) (g t
   each : AllByRecursion IsItem items
   units : none_or_one t.units ≡ none_or_one g.units ++ (value_for Units setting value ++ values Units items)
   handler : none_or_one t.handler ≡ none_or_one g.handler ++ (value_for Handler setting value ++ values Handler items)
+  flagged : zero_or_one t.words ≡ zero_or_one g.words + flags items
   files : t.files ≡ g.files ++ (operands items ++ unwrap_or behind [])
 
 record Valued (setting : Setting) (words : List (List ℕ)) (g t : Given) : Type 0 where
@@ -73,6 +75,7 @@ record Valued (setting : Setting) (words : List (List ℕ)) (g t : Given) : Type
 record Behind (words : List (List ℕ)) (g t : Given) : Type 0 where
   units : t.units ≡ g.units
   handler : t.handler ≡ g.handler
+  flagged : t.words ≡ g.words
   files : t.files ≡ g.files ++ words
 
 abbrev From : Place → List (List ℕ) → Given → Given → Type 0
@@ -96,17 +99,18 @@ sorted_start g = record {
   each = tt;
   units = sym (append-nil (none_or_one g.units));
   handler = sym (append-nil (none_or_one g.handler));
+  flagged = omega arith;
   files = sym (append-nil g.files);
 }
 
 ends : (p : Place) (g : Given) → IsOver p → From p [] g g
 ends Options g over = sorted_start g
 ends (Value setting) g over = absurd over
-ends Operands g over = record { units = refl; handler = refl; files = sym (append-nil g.files) }
+ends Operands g over = record { units = refl; handler = refl; flagged = refl; files = sym (append-nil g.files) }
 
 module _ (word : List ℕ) (words : List (List ℕ)) (t : Given) (ih : Tells words t) where
   abbrev more : Given → Given
-  more g = record { place = g.place; units = g.units; handler = g.handler; files = g.files ++ word ∷ [] }
+  more g = record { place = g.place; units = g.units; handler = g.handler; words = g.words; files = g.files ++ word ∷ [] }
 
   operand : (b : Bool) (g : Given) → given_by words (if b then Some (more g) else None) ≡ Some t → From g.place words (more g) t
   operand true g e = ih (more g) e
@@ -114,7 +118,7 @@ module _ (word : List ℕ) (words : List (List ℕ)) (t : Given) (ih : Tells wor
 
   took_units : (o : Option ℕ) (text : List ℕ) (value : ℕ) (g : Given) → g.units ≡ o → value_of Units text ≡ Some value → given_by words (units_given o value g) ≡ Some t → Took Units text words g t
   took_units None text value g is gives e =
-      let s = ih (record { place = Options; units = Some value; handler = g.handler; files = g.files }) e in
+      let s = ih (record { place = Options; units = Some value; handler = g.handler; words = g.words; files = g.files }) e in
       record {
         value = value;
         gives = gives;
@@ -124,13 +128,14 @@ module _ (word : List ℕ) (words : List (List ℕ)) (t : Given) (ih : Tells wor
         each = s.each;
         units = s.units ∙ ap (λ (o : Option ℕ). none_or_one o ++ (value ∷ values Units s.items)) (sym is);
         handler = s.handler;
+        flagged = s.flagged;
         files = s.files;
       }
   took_units (Some before) text value g is gives e = absurd (stuck words t e)
 
   took_handler : (o : Option ℕ) (text : List ℕ) (value : ℕ) (g : Given) → g.handler ≡ o → value_of Handler text ≡ Some value → given_by words (handler_given o value g) ≡ Some t → Took Handler text words g t
   took_handler None text value g is gives e =
-      let s = ih (record { place = Options; units = g.units; handler = Some value; files = g.files }) e in
+      let s = ih (record { place = Options; units = g.units; handler = Some value; words = g.words; files = g.files }) e in
       record {
         value = value;
         gives = gives;
@@ -140,6 +145,7 @@ module _ (word : List ℕ) (words : List (List ℕ)) (t : Given) (ih : Tells wor
         each = s.each;
         units = s.units;
         handler = s.handler ∙ ap (λ (o : Option ℕ). none_or_one o ++ (value ∷ values Handler s.items)) (sym is);
+        flagged = s.flagged;
         files = s.files;
       }
   took_handler (Some before) text value g is gives e = absurd (stuck words t e)
@@ -158,6 +164,7 @@ module _ (word : List ℕ) (words : List (List ℕ)) (t : Given) (ih : Tells wor
     each = (plain, s.each);
     units = s.units;
     handler = s.handler;
+    flagged = omega (arith, s.flagged);
     files = s.files ∙ append_assoc g.files (word ∷ []) (operands s.items ++ unwrap_or s.behind []);
   }
 
@@ -171,6 +178,7 @@ module _ (word : List ℕ) (words : List (List ℕ)) (t : Given) (ih : Tells wor
     each = (v.took.gives, v.took.each);
     units = v.took.units;
     handler = v.took.handler;
+    flagged = omega (arith, v.took.flagged);
     files = v.took.files;
   }
 
@@ -182,6 +190,7 @@ module _ (word : List ℕ) (words : List (List ℕ)) (t : Given) (ih : Tells wor
     each = (v.gives, v.each);
     units = v.units;
     handler = v.handler;
+    flagged = omega (arith, v.flagged);
     files = v.files;
   }
 
@@ -192,11 +201,29 @@ module _ (word : List ℕ) (words : List (List ℕ)) (t : Given) (ih : Tells wor
       joined Handler text g (has_front (front_of Handler) word text handler) (took Handler (value_of Handler text) text g refl e)
   by_front None None g units handler e = absurd (stuck words t e)
 
-  by_name : (a b : Bool) (g : Given) → bytes_eq word (name_of Units) ≡ a → bytes_eq word (name_of Handler) ≡ b → given_by words (if a then Some (with_place (Value Units) g) else (if b then Some (with_place (Value Handler) g) else with_joined (behind_front (front_of Units) word) (behind_front (front_of Handler) word) g)) ≡ Some t → Sorted (word ∷ words) g t
+  by_flag : (b : Bool) (g : Given) → word ≡ flag → g.words ≡ b → given_by words (flag_given b g) ≡ Some t → Sorted (word ∷ words) g t
+  by_flag false g is none e =
+      let s = ih (record { place = Options; units = g.units; handler = g.handler; words = true; files = g.files }) e in
+      record {
+        items = Flag ∷ s.items;
+        behind = s.behind;
+        words_are = ap (λ (w : List ℕ). w ∷ words) is ∙ ap (λ (ws : List (List ℕ)). flag ∷ ws) s.words_are;
+        each = (tt, s.each);
+        units = s.units;
+        handler = s.handler;
+        flagged = omega (arith, s.flagged, ap zero_or_one none);
+        files = s.files;
+      }
+  by_flag true g is none e = absurd (stuck words t e)
+
+  by_word : (b : Bool) (g : Given) → bytes_eq word flag ≡ b → given_by words (if b then flag_given g.words g else with_joined (behind_front (front_of Units) word) (behind_front (front_of Handler) word) g) ≡ Some t → Sorted (word ∷ words) g t
+  by_word true g is e = by_flag g.words g (same_text word flag is) refl e
+  by_word false g is e = by_front (behind_front (front_of Units) word) (behind_front (front_of Handler) word) g refl refl e
+
+  by_name : (a b : Bool) (g : Given) → bytes_eq word (name_of Units) ≡ a → bytes_eq word (name_of Handler) ≡ b → given_by words (if a then Some (with_place (Value Units) g) else (if b then Some (with_place (Value Handler) g) else (if bytes_eq word flag then flag_given g.words g else with_joined (behind_front (front_of Units) word) (behind_front (front_of Handler) word) g))) ≡ Some t → Sorted (word ∷ words) g t
   by_name true b g units handler e = apart Units g (same_text word (name_of Units) units) (ih (with_place (Value Units) g) e)
   by_name false true g units handler e = apart Handler g (same_text word (name_of Handler) handler) (ih (with_place (Value Handler) g) e)
-  by_name false false g units handler e =
-      by_front (behind_front (front_of Units) word) (behind_front (front_of Handler) word) g refl refl e
+  by_name false false g units handler e = by_word (bytes_eq word flag) g refl e
 
   by_sort : (a b : Bool) (g : Given) → g.place ≡ Options → bytes_eq word end_of_options ≡ a → is_option word ≡ b → given_by words (if a then Some (with_place Operands g) else (if b then with_option word g else with_operand word g)) ≡ Some t → Sorted (word ∷ words) g t
   by_sort true b g at is plain e =
@@ -208,6 +235,7 @@ module _ (word : List ℕ) (words : List (List ℕ)) (t : Given) (ih : Tells wor
         each = tt;
         units = ap none_or_one v.units ∙ sym (append-nil (none_or_one g.units));
         handler = ap none_or_one v.handler ∙ sym (append-nil (none_or_one g.handler));
+        flagged = omega (arith, ap zero_or_one v.flagged);
         files = v.files;
       }
   by_sort false true g at is plain e = by_name (bytes_eq word (name_of Units)) (bytes_eq word (name_of Handler)) g refl refl e
@@ -220,7 +248,7 @@ module _ (word : List ℕ) (words : List (List ℕ)) (t : Given) (ih : Tells wor
   by_place (Value setting) g at e = record { text = word; rest = words; are = refl; took = took setting (value_of setting word) word g refl e }
   by_place Operands g at e =
       let s : Behind words (more g) t = subst (λ (p : Place). From p words (more g) t) at (operand (nat_le (length g.files) images_limit) g e) in
-      record { units = s.units; handler = s.handler; files = s.files ∙ append_assoc g.files (word ∷ []) words }
+      record { units = s.units; handler = s.handler; flagged = s.flagged; files = s.files ∙ append_assoc g.files (word ∷ []) words }
 
 tells : (t : Given) → IsOver t.place → (words : List (List ℕ)) → Tells words t
 tells t over [] g e =
@@ -249,10 +277,10 @@ taken : (kind : Option Kind) (files : List (List ℕ)) (command : Command) → w
 taken None files command e = absurd (cc)
 taken (Some kind) files command e = taken_where (takes kind (length files)) kind files command refl e
 
-over_where : (p : Place) (verb : List ℕ) (g : Given) (command : Command) → command_at p verb g ≡ Some command → IsOver p × Taken (kind_of verb g.units g.handler) g.files command
-over_where Options verb g command e = (tt, taken (kind_of verb g.units g.handler) g.files command e)
+over_where : (p : Place) (verb : List ℕ) (g : Given) (command : Command) → command_at p verb g ≡ Some command → IsOver p × Taken (kind_of verb g.units g.handler g.words) g.files command
+over_where Options verb g command e = (tt, taken (kind_of verb g.units g.handler g.words) g.files command e)
 over_where (Value setting) verb g command e = absurd (cc)
-over_where Operands verb g command e = (tt, taken (kind_of verb g.units g.handler) g.files command e)
+over_where Operands verb g command e = (tt, taken (kind_of verb g.units g.handler g.words) g.files command e)
 
 ruled_where : (o : Option Given) (verb : List ℕ) (words : List (List ℕ)) (command : Command) → given_by words (Some nothing_given) ≡ o → command_with verb o ≡ Some command → IsCommand (verb ∷ words) command
 ruled_where None verb words command read e = absurd (cc)
@@ -269,6 +297,8 @@ ruled_where (Some t) verb words command read e =
       units_once = s.units;
       handler = t.handler;
       handler_once = s.handler;
+      flagged = t.words;
+      flagged_once = omega (arith, s.flagged);
       named = over.1.named;
       files_are = over.1.files_are ∙ s.files;
       number = over.1.number;
@@ -280,8 +310,8 @@ ruled (verb ∷ words) command e = ruled_where (given_by words (Some nothing_giv
 
 -- From the rules to the words.
 
-abbrev at : Place → Option ℕ → Option ℕ → List (List ℕ) → Given
-at place units handler files = record { place = place; units = units; handler = handler; files = files }
+abbrev at : Place → Option ℕ → Option ℕ → Bool → List (List ℕ) → Given
+at place units handler flagged files = record { place = place; units = units; handler = handler; words = flagged; files = files }
 
 -- A word that does not look like an option ends none.
 not_true : (b : Bool) → (b ≡ true → ⊥) → b ≡ false
@@ -311,6 +341,18 @@ none_stood now None value rest e = refl
 none_stood None (Some m) value rest e = absurd (cc)
 none_stood (Some n) (Some m) value rest e = absurd (cc)
 
+-- The flag may stand where it didn't, and then it stands.
+same_flag : (a b : Bool) → zero_or_one a ≡ zero_or_one b → a ≡ b
+same_flag false false e = refl
+same_flag false true e = absurd (omega (arith, e))
+same_flag true false e = absurd (omega (arith, e))
+same_flag true true e = refl
+
+no_flag_stood : (now before : Bool) (rest : ℕ) → zero_or_one now ≡ zero_or_one before + (1 + rest) → before ≡ false
+no_flag_stood now false rest e = refl
+no_flag_stood false true rest e = absurd (omega (arith, e))
+no_flag_stood true true rest e = absurd (omega (arith, e))
+
 -- One more operand may stand.
 room : (files : List (List ℕ)) (word : List ℕ) (rest : List (List ℕ)) → length files + length (word ∷ rest) ≤ images_limit + 1 → nat_le (length files) images_limit ≡ true
 room files word rest few = let less : length files ≤ images_limit = omega (arith, few) in grind (arith, nat_tests, less)
@@ -319,12 +361,12 @@ more_room : (files : List (List ℕ)) (word : List ℕ) (rest : List (List ℕ))
 more_room files word rest few = omega (arith, few, length-append files (word ∷ []))
 
 -- the operands behind the end of the options
-makes_behind : (words : List (List ℕ)) (units handler : Option ℕ) (files : List (List ℕ)) → length files + length words ≤ images_limit + 1 → given_by words (Some (at Operands units handler files)) ≡ Some (at Operands units handler (files ++ words))
-makes_behind [] units handler files few = ap (λ (fs : List (List ℕ)). Some (at Operands units handler fs)) (sym (append-nil files))
-makes_behind (word ∷ words) units handler files few =
-    ap (λ (b : Bool). given_by words (if b then Some (at Operands units handler (files ++ word ∷ [])) else None)) (room files word words few)
-    ∙ makes_behind words units handler (files ++ word ∷ []) (more_room files word words few)
-    ∙ ap (λ (fs : List (List ℕ)). Some (at Operands units handler fs)) (append_assoc files (word ∷ []) words)
+makes_behind : (words : List (List ℕ)) (units handler : Option ℕ) (flagged : Bool) (files : List (List ℕ)) → length files + length words ≤ images_limit + 1 → given_by words (Some (at Operands units handler flagged files)) ≡ Some (at Operands units handler flagged (files ++ words))
+makes_behind [] units handler flagged files few = ap (λ (fs : List (List ℕ)). Some (at Operands units handler flagged fs)) (sym (append-nil files))
+makes_behind (word ∷ words) units handler flagged files few =
+    ap (λ (b : Bool). given_by words (if b then Some (at Operands units handler flagged (files ++ word ∷ [])) else None)) (room files word words few)
+    ∙ makes_behind words units handler flagged (files ++ word ∷ []) (more_room files word words few)
+    ∙ ap (λ (fs : List (List ℕ)). Some (at Operands units handler flagged fs)) (append_assoc files (word ∷ []) words)
 
 abbrev place_behind : Option (List (List ℕ)) → Place
 place_behind None = Options
@@ -345,74 +387,87 @@ apart_is : (setting : Setting) (g : Given) → with_any (name_of setting) g ≡ 
 apart_is Units g = as_option (codes "units") g refl
 apart_is Handler g = as_option (codes "handler") g refl
 
+flag_is : (g : Given) → with_any flag g ≡ flag_given g.words g
+flag_is g = as_option (codes "words") g refl
+
 -- The value is taken, since none stood there.
-value_is : (setting : Setting) (value : ℕ) (place : Place) (units handler now_units now_handler : Option ℕ) (files : List (List ℕ)) (items : List Item) → none_or_one now_units ≡ none_or_one units ++ (value_for Units setting value ++ values Units items) → none_or_one now_handler ≡ none_or_one handler ++ (value_for Handler setting value ++ values Handler items) → (u h : Option ℕ) × (with_value setting (Some value) (at place units handler files) ≡ Some (at Options u h files)) × (none_or_one now_units ≡ none_or_one u ++ values Units items) × (none_or_one now_handler ≡ none_or_one h ++ values Handler items)
-value_is Units value place units handler now_units now_handler files items is_units is_handler =
+value_is : (setting : Setting) (value : ℕ) (place : Place) (units handler now_units now_handler : Option ℕ) (flagged : Bool) (files : List (List ℕ)) (items : List Item) → none_or_one now_units ≡ none_or_one units ++ (value_for Units setting value ++ values Units items) → none_or_one now_handler ≡ none_or_one handler ++ (value_for Handler setting value ++ values Handler items) → (u h : Option ℕ) × (with_value setting (Some value) (at place units handler flagged files) ≡ Some (at Options u h flagged files)) × (none_or_one now_units ≡ none_or_one u ++ values Units items) × (none_or_one now_handler ≡ none_or_one h ++ values Handler items)
+value_is Units value place units handler now_units now_handler flagged files items is_units is_handler =
     let none = none_stood now_units units value (values Units items) is_units in (
       Some value,
       handler,
-      ap (λ (o : Option ℕ). units_given o value (at place units handler files)) none,
+      ap (λ (o : Option ℕ). units_given o value (at place units handler flagged files)) none,
       subst (λ (o : Option ℕ). none_or_one now_units ≡ none_or_one o ++ (value ∷ values Units items)) none is_units,
       is_handler,
     )
-value_is Handler value place units handler now_units now_handler files items is_units is_handler =
+value_is Handler value place units handler now_units now_handler flagged files items is_units is_handler =
     let none = none_stood now_handler handler value (values Handler items) is_handler in (
       units,
       Some value,
-      ap (λ (o : Option ℕ). handler_given o value (at place units handler files)) none,
+      ap (λ (o : Option ℕ). handler_given o value (at place units handler flagged files)) none,
       is_units,
       subst (λ (o : Option ℕ). none_or_one now_handler ≡ none_or_one o ++ (value ∷ values Handler items)) none is_handler,
     )
 
-makes : (items : List Item) (behind : Option (List (List ℕ))) (units handler now_units now_handler : Option ℕ) (files : List (List ℕ)) → AllByRecursion IsItem items → none_or_one now_units ≡ none_or_one units ++ values Units items → none_or_one now_handler ≡ none_or_one handler ++ values Handler items → length files + length (files_of items behind) ≤ images_limit + 1 → given_by (written items ++ ended behind) (Some (at Options units handler files)) ≡ Some (at (place_behind behind) now_units now_handler (files ++ files_of items behind))
-makes [] None units handler now_units now_handler files each is_units is_handler few =
+makes : (items : List Item) (behind : Option (List (List ℕ))) (units handler now_units now_handler : Option ℕ) (flagged now_flagged : Bool) (files : List (List ℕ)) → AllByRecursion IsItem items → none_or_one now_units ≡ none_or_one units ++ values Units items → none_or_one now_handler ≡ none_or_one handler ++ values Handler items → zero_or_one now_flagged ≡ zero_or_one flagged + flags items → length files + length (files_of items behind) ≤ images_limit + 1 → given_by (written items ++ ended behind) (Some (at Options units handler flagged files)) ≡ Some (at (place_behind behind) now_units now_handler now_flagged (files ++ files_of items behind))
+makes [] None units handler now_units now_handler flagged now_flagged files each is_units is_handler is_flagged few =
     let same_units = same_option now_units units (is_units ∙ append-nil (none_or_one units)) in
     let same_handler = same_option now_handler handler (is_handler ∙ append-nil (none_or_one handler)) in
-    ap (λ (o : Option ℕ). Some (at Options o handler files)) (sym same_units)
-    ∙ ap (λ (o : Option ℕ). Some (at Options now_units o files)) (sym same_handler)
-    ∙ ap (λ (fs : List (List ℕ)). Some (at Options now_units now_handler fs)) (sym (append-nil files))
-makes [] (Some words) units handler now_units now_handler files each is_units is_handler few =
+    let same_flagged = same_flag now_flagged flagged (omega (arith, is_flagged)) in
+    ap (λ (o : Option ℕ). Some (at Options o handler flagged files)) (sym same_units)
+    ∙ ap (λ (o : Option ℕ). Some (at Options now_units o flagged files)) (sym same_handler)
+    ∙ ap (λ (b : Bool). Some (at Options now_units now_handler b files)) (sym same_flagged)
+    ∙ ap (λ (fs : List (List ℕ)). Some (at Options now_units now_handler now_flagged fs)) (sym (append-nil files))
+makes [] (Some words) units handler now_units now_handler flagged now_flagged files each is_units is_handler is_flagged few =
     let same_units = same_option now_units units (is_units ∙ append-nil (none_or_one units)) in
     let same_handler = same_option now_handler handler (is_handler ∙ append-nil (none_or_one handler)) in
-    makes_behind words units handler files few
-    ∙ ap (λ (o : Option ℕ). Some (at Operands o handler (files ++ words))) (sym same_units)
-    ∙ ap (λ (o : Option ℕ). Some (at Operands now_units o (files ++ words))) (sym same_handler)
-makes (Operand word ∷ items) behind units handler now_units now_handler files each is_units is_handler few =
+    let same_flagged = same_flag now_flagged flagged (omega (arith, is_flagged)) in
+    makes_behind words units handler flagged files few
+    ∙ ap (λ (o : Option ℕ). Some (at Operands o handler flagged (files ++ words))) (sym same_units)
+    ∙ ap (λ (o : Option ℕ). Some (at Operands now_units o flagged (files ++ words))) (sym same_handler)
+    ∙ ap (λ (b : Bool). Some (at Operands now_units now_handler b (files ++ words))) (sym same_flagged)
+makes (Operand word ∷ items) behind units handler now_units now_handler flagged now_flagged files each is_units is_handler is_flagged few =
     let words = written items ++ ended behind in
-    let g = at Options units handler files in
+    let g = at Options units handler flagged files in
     ap (λ (b : Bool). given_by words (if b then Some (with_place Operands g) else (if is_option word then with_option word g else with_operand word g))) (no_end word each.0)
     ∙ ap (λ (b : Bool). given_by words (if b then with_option word g else with_operand word g)) each.0
-    ∙ ap (λ (b : Bool). given_by words (if b then Some (at Options units handler (files ++ word ∷ [])) else None)) (room files word (files_of items behind) few)
-    ∙ makes items behind units handler now_units now_handler (files ++ word ∷ []) each.1 is_units is_handler (more_room files word (files_of items behind) few)
-    ∙ ap (λ (fs : List (List ℕ)). Some (at (place_behind behind) now_units now_handler fs)) (append_assoc files (word ∷ []) (files_of items behind))
-makes (Joined setting text value ∷ items) behind units handler now_units now_handler files each is_units is_handler few =
+    ∙ ap (λ (b : Bool). given_by words (if b then Some (at Options units handler flagged (files ++ word ∷ [])) else None)) (room files word (files_of items behind) few)
+    ∙ makes items behind units handler now_units now_handler flagged now_flagged (files ++ word ∷ []) each.1 is_units is_handler (omega (arith, is_flagged)) (more_room files word (files_of items behind) few)
+    ∙ ap (λ (fs : List (List ℕ)). Some (at (place_behind behind) now_units now_handler now_flagged fs)) (append_assoc files (word ∷ []) (files_of items behind))
+makes (Flag ∷ items) behind units handler now_units now_handler flagged now_flagged files each is_units is_handler is_flagged few =
     let words = written items ++ ended behind in
-    let v = value_is setting value Options units handler now_units now_handler files items is_units is_handler in
-    ap (given_by words) (joined_is setting text value (at Options units handler files) each.0 ∙ v.2)
-    ∙ makes items behind v.0 v.1 now_units now_handler files each.1 v.3 v.4 few
-makes (Apart setting text value ∷ items) behind units handler now_units now_handler files each is_units is_handler few =
+    let none = no_flag_stood now_flagged flagged (flags items) is_flagged in
+    let is_flagged_now : zero_or_one now_flagged ≡ zero_or_one true + flags items = omega (arith, is_flagged, ap zero_or_one none) in
+    ap (given_by words) (flag_is (at Options units handler flagged files) ∙ ap (λ (b : Bool). flag_given b (at Options units handler flagged files)) none)
+    ∙ makes items behind units handler now_units now_handler true now_flagged files each.1 is_units is_handler is_flagged_now few
+makes (Joined setting text value ∷ items) behind units handler now_units now_handler flagged now_flagged files each is_units is_handler is_flagged few =
     let words = written items ++ ended behind in
-    let v = value_is setting value (Value setting) units handler now_units now_handler files items is_units is_handler in
-    ap (λ (o : Option Given). given_by (text ∷ words) o) (apart_is setting (at Options units handler files))
-    ∙ ap (λ (o : Option ℕ). given_by words (with_value setting o (at (Value setting) units handler files))) each.0
+    let v = value_is setting value Options units handler now_units now_handler flagged files items is_units is_handler in
+    ap (given_by words) (joined_is setting text value (at Options units handler flagged files) each.0 ∙ v.2)
+    ∙ makes items behind v.0 v.1 now_units now_handler flagged now_flagged files each.1 v.3 v.4 (omega (arith, is_flagged)) few
+makes (Apart setting text value ∷ items) behind units handler now_units now_handler flagged now_flagged files each is_units is_handler is_flagged few =
+    let words = written items ++ ended behind in
+    let v = value_is setting value (Value setting) units handler now_units now_handler flagged files items is_units is_handler in
+    ap (λ (o : Option Given). given_by (text ∷ words) o) (apart_is setting (at Options units handler flagged files))
+    ∙ ap (λ (o : Option ℕ). given_by words (with_value setting o (at (Value setting) units handler flagged files))) each.0
     ∙ ap (λ (o : Option Given). given_by words o) v.2
-    ∙ makes items behind v.0 v.1 now_units now_handler files each.1 v.3 v.4 few
+    ∙ makes items behind v.0 v.1 now_units now_handler flagged now_flagged files each.1 v.3 v.4 (omega (arith, is_flagged)) few
 
 -- No command takes more files than a run.
 few_files : (kind : Kind) (n : ℕ) → IsTrue (takes kind n) → n ≤ images_limit + 1
-few_files (kinds.Run units handler) n is = grind (arith, nat_tests)
+few_files (kinds.Run units handler words) n is = grind (arith, nat_tests)
 few_files (kinds.Tool tool) n is = grind (arith, nat_tests)
 
-command_is : (behind : Option (List (List ℕ))) (verb : List ℕ) (units handler : Option ℕ) (files : List (List ℕ)) (command : Command) → kind_of verb units handler ≡ Some command.kind → command.files ≡ files → IsTrue (takes command.kind (length command.files)) → command_at (place_behind behind) verb (at (place_behind behind) units handler files) ≡ Some command
-command_is None verb units handler files command named files_are number = ap (λ k. with_files k files) named ∙ ap (λ fs. with_files (Some command.kind) fs) (sym files_are) ∙ ap (λ b. if b then Some (record { kind = command.kind; files = command.files }) else None) number
-command_is (Some words) verb units handler files command named files_are number = ap (λ k. with_files k files) named ∙ ap (λ fs. with_files (Some command.kind) fs) (sym files_are) ∙ ap (λ b. if b then Some (record { kind = command.kind; files = command.files }) else None) number
+command_is : (behind : Option (List (List ℕ))) (verb : List ℕ) (units handler : Option ℕ) (flagged : Bool) (files : List (List ℕ)) (command : Command) → kind_of verb units handler flagged ≡ Some command.kind → command.files ≡ files → IsTrue (takes command.kind (length command.files)) → command_at (place_behind behind) verb (at (place_behind behind) units handler flagged files) ≡ Some command
+command_is None verb units handler flagged files command named files_are number = ap (λ k. with_files k files) named ∙ ap (λ fs. with_files (Some command.kind) fs) (sym files_are) ∙ ap (λ b. if b then Some (record { kind = command.kind; files = command.files }) else None) number
+command_is (Some words) verb units handler flagged files command named files_are number = ap (λ k. with_files k files) named ∙ ap (λ fs. with_files (Some command.kind) fs) (sym files_are) ∙ ap (λ b. if b then Some (record { kind = command.kind; files = command.files }) else None) number
 
 taken_from : (words : List (List ℕ)) (command : Command) → IsCommand words command → command_of words ≡ Some command
 taken_from words command r =
     let few : length (files_of r.items r.behind) ≤ images_limit + 1 = subst (λ (fs : List (List ℕ)). length fs ≤ images_limit + 1) r.files_are (few_files command.kind (length command.files) r.number) in
     ap command_of r.words_are
-    ∙ ap (λ (o : Option Given). command_with r.verb o) (makes r.items r.behind None None r.units r.handler [] r.each r.units_once r.handler_once (omega (arith, few)))
-    ∙ command_is r.behind r.verb r.units r.handler (files_of r.items r.behind) command r.named r.files_are r.number
+    ∙ ap (λ (o : Option Given). command_with r.verb o) (makes r.items r.behind None None r.units r.handler false r.flagged [] r.each r.units_once r.handler_once (omega (arith, r.flagged_once)) (omega (arith, few)))
+    ∙ command_is r.behind r.verb r.units r.handler r.flagged (files_of r.items r.behind) command r.named r.files_are r.number
 
 pub commands_are_by_rules : CommandsAreByRules
 commands_are_by_rules words command = (ruled words command, taken_from words command)
@@ -439,6 +494,7 @@ first_is n m rest e = cc
 given_values : (setting : Setting) (items : List Item) (n : ℕ) → AllByRecursion IsItem items → n ∷ [] ≡ values setting items → (1 ≤ n) × (n ≤ greatest setting)
 given_values setting [] n each e = absurd (cc)
 given_values setting (Operand word ∷ items) n each e = given_values setting items n each.1 e
+given_values setting (Flag ∷ items) n each e = given_values setting items n each.1 e
 given_values Units (Joined Units text value ∷ items) n each e = subst (λ (k : ℕ). (1 ≤ k) × (k ≤ unit_limit)) (first_is n value (values Units items) e) (in_range 1 unit_limit text value each.0)
 given_values Units (Joined Handler text value ∷ items) n each e = given_values Units items n each.1 e
 given_values Handler (Joined Units text value ∷ items) n each e = given_values Handler items n each.1 e
@@ -457,23 +513,24 @@ or_default : (o : Option ℕ) (own most : ℕ) → ((n : ℕ) → o ≡ Some n �
 or_default None own most given least high = (least, high)
 or_default (Some n) own most given least high = given n refl
 
-alone_within : (tool : Option Tool) (units handler : Option ℕ) (kind : Kind) → without_limits tool units handler ≡ Some kind → IsWithinLimits kind
-alone_within (Some tool) None None kind e = let same : kinds.Tool tool ≡ kind = cc in subst IsWithinLimits same tt
-alone_within None units handler kind e = absurd (cc)
-alone_within (Some tool) None (Some h) kind e = absurd (cc)
-alone_within (Some tool) (Some u) handler kind e = absurd (cc)
+alone_within : (tool : Option Tool) (units handler : Option ℕ) (words : Bool) (kind : Kind) → without_options tool units handler words ≡ Some kind → IsWithinLimits kind
+alone_within (Some tool) None None false kind e = let same : kinds.Tool tool ≡ kind = cc in subst IsWithinLimits same tt
+alone_within None units handler words kind e = absurd (cc)
+alone_within (Some tool) None None true kind e = absurd (cc)
+alone_within (Some tool) None (Some h) words kind e = absurd (cc)
+alone_within (Some tool) (Some u) handler words kind e = absurd (cc)
 
-named_within : (b : Bool) (verb : List ℕ) (units handler : Option ℕ) (kind : Kind) → IsGiven Units units → IsGiven Handler handler → (if b then Some (kinds.Run (unwrap_or units default_units) (unwrap_or handler default_handler_units)) else without_limits (tool_of verb) units handler) ≡ Some kind → IsWithinLimits kind
-named_within true verb units handler kind given_units given_handler e =
+named_within : (b : Bool) (verb : List ℕ) (units handler : Option ℕ) (words : Bool) (kind : Kind) → IsGiven Units units → IsGiven Handler handler → (if b then Some (kinds.Run (unwrap_or units default_units) (unwrap_or handler default_handler_units) words) else without_options (tool_of verb) units handler words) ≡ Some kind → IsWithinLimits kind
+named_within true verb units handler words kind given_units given_handler e =
     let u = or_default units default_units unit_limit given_units (omega arith) (omega arith) in
     let h = or_default handler default_handler_units handler_limit given_handler (omega arith) (omega arith) in
-    let same : kinds.Run (unwrap_or units default_units) (unwrap_or handler default_handler_units) ≡ kind = cc in
+    let same : kinds.Run (unwrap_or units default_units) (unwrap_or handler default_handler_units) words ≡ kind = cc in
     subst IsWithinLimits same (u.0, u.1, h.0, h.1)
-named_within false verb units handler kind given_units given_handler e = alone_within (tool_of verb) units handler kind e
+named_within false verb units handler words kind given_units given_handler e = alone_within (tool_of verb) units handler words kind e
 
 pub commands_are_within_limits : CommandsAreWithinLimits
 commands_are_within_limits words command e =
     let r = ruled words command e in
-    named_within (bytes_eq r.verb (codes "run")) r.verb r.units r.handler command.kind
+    named_within (bytes_eq r.verb (codes "run")) r.verb r.units r.handler r.flagged command.kind
     (given_option Units r.items r.units r.each r.units_once)
     (given_option Handler r.items r.handler r.each r.handler_once) r.named

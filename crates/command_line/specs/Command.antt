@@ -1,5 +1,5 @@
 -- The command that the words of the command line are, and the files that it takes.
-use Rattle.std.specs.Prelude.{ℕ, ◌≡◌, ◌≤◌, ◌↔◌, ◌+◌, ◌&&◌, ◌==◌, nat_lt, nat_le, if◌then◌else◌, Bool, false, IsTrue, List, [], ◌∷◌, ◌++◌, length, slice_index, codes, Option, Some, None, unwrap_or}
+use Rattle.std.specs.Prelude.{ℕ, ◌≡◌, ◌≤◌, ◌↔◌, ◌+◌, ◌&&◌, ◌==◌, nat_lt, nat_le, if◌then◌else◌, Bool, true, false, IsTrue, List, [], ◌∷◌, ◌++◌, length, slice_index, codes, Option, Some, None, unwrap_or}
 use Rattle.std.specs.List.{AllByRecursion}
 use Rattle.std.specs.Str.{bytes_eq}
 use Rattle.mote_base.specs.Numbers.{number_in}
@@ -20,7 +20,7 @@ pub record Command : Type 0 where
 
 -- whether it takes so many files: `run` a script and 1 to 64 images, and each other command an image
 abbrev pub takes : Kind → ℕ → Bool
-takes (kinds.Run units handler) count = nat_le 2 count && nat_le count (1 + images_limit)
+takes (kinds.Run units handler words) count = nat_le 2 count && nat_le count (1 + images_limit)
 takes (kinds.Tool tool) count = count == 1
 
 -- The most bytes of a tool's file: those of an image, and of the text of a module those of a script.
@@ -31,12 +31,12 @@ tool_limit _ = image_limit
 -- The most bytes of the command's file with that number, counted from 0: 1,048,576 of a script and 65,536
 -- of an image.
 abbrev pub limit_of : Kind → ℕ → ℕ
-limit_of (kinds.Run units handler) number = if number == 0 then script_limit else image_limit
+limit_of (kinds.Run units handler words) number = if number == 0 then script_limit else image_limit
 limit_of (kinds.Tool tool) number = tool_limit tool
 
 -- The limits of a run are in their ranges.
 abbrev pub IsWithinLimits : Kind → Type 0
-IsWithinLimits (kinds.Run units handler) = (1 ≤ units) × (units ≤ unit_limit) × (1 ≤ handler) × (handler ≤ handler_limit)
+IsWithinLimits (kinds.Run units handler words) = (1 ≤ units) × (units ≤ unit_limit) × (1 ≤ handler) × (handler ≤ handler_limit)
 IsWithinLimits (kinds.Tool tool) = Unit {0}
 
 -- the tool of that name
@@ -51,17 +51,17 @@ tool_of verb =
     else (if bytes_eq verb (codes "asm") then Some Assembly
     else (if bytes_eq verb (codes "source") then Some Source else None))))))
 
-abbrev pub without_limits : Option Tool → Option ℕ → Option ℕ → Option Kind
-without_limits (Some tool) None None = Some (kinds.Tool tool)
-without_limits _ _ _ = None
+abbrev pub without_options : Option Tool → Option ℕ → Option ℕ → Bool → Option Kind
+without_options (Some tool) None None false = Some (kinds.Tool tool)
+without_options _ _ _ _ = None
 
--- The command of that name with these limits, each where it is given. `run` alone takes limits, and has its own where
--- none is given.
-abbrev pub kind_of : List ℕ → Option ℕ → Option ℕ → Option Kind
-kind_of verb units handler =
+-- The command of that name with these limits, each where it is given, and with the flag or without it. `run` alone takes
+-- them, and has limits of its own where none is given.
+abbrev pub kind_of : List ℕ → Option ℕ → Option ℕ → Bool → Option Kind
+kind_of verb units handler words =
     if bytes_eq verb (codes "run")
-    then Some (kinds.Run (unwrap_or units default_units) (unwrap_or handler default_handler_units))
-    else without_limits (tool_of verb) units handler
+    then Some (kinds.Run (unwrap_or units default_units) (unwrap_or handler default_handler_units) words)
+    else without_options (tool_of verb) units handler words
 
 -- The words.
 
@@ -83,6 +83,10 @@ abbrev pub front_of : Setting → List ℕ
 front_of Units = codes "--units="
 front_of Handler = codes "--handler="
 
+-- the flag: an option without a value, by which a run tells the words that it runs
+abbrev pub flag : List ℕ
+flag = codes "--words"
+
 abbrev pub greatest : Setting → ℕ
 greatest Units = unit_limit
 greatest Handler = handler_limit
@@ -93,20 +97,24 @@ value_of setting text = number_in 1 (greatest setting) text
 
 -- The rules.
 
--- What a word of a command says, or two of them: it is an operand, or an option with its value, in one word or in two.
+-- What a word of a command says, or two of them: it is an operand, the flag, or an option with its value, in one word or in
+-- two.
 pub data Item : Type 0 where
   Operand : List ℕ → Item
+  Flag : Item
   Joined : Setting → List ℕ → ℕ → Item
   Apart : Setting → List ℕ → ℕ → Item
 
 abbrev pub words_of : Item → List (List ℕ)
 words_of (Operand word) = word ∷ []
+words_of Flag = flag ∷ []
 words_of (Joined setting text value) = (front_of setting ++ text) ∷ []
 words_of (Apart setting text value) = name_of setting ∷ text ∷ []
 
 -- An operand does not look like an option, and the text of a value gives it.
 abbrev pub IsItem : Item → Type 0
 IsItem (Operand word) = is_option word ≡ false
+IsItem Flag = Unit {0}
 IsItem (Joined setting text value) = value_of setting text ≡ Some value
 IsItem (Apart setting text value) = value_of setting text ≡ Some value
 
@@ -116,6 +124,7 @@ written (item ∷ items) = words_of item ++ written items
 
 abbrev pub operand_of : Item → List (List ℕ)
 operand_of (Operand word) = word ∷ []
+operand_of Flag = []
 operand_of (Joined setting text value) = []
 operand_of (Apart setting text value) = []
 
@@ -130,6 +139,7 @@ value_for _ _ value = []
 
 abbrev pub value_in : Setting → Item → List ℕ
 value_in setting (Operand word) = []
+value_in setting Flag = []
 value_in setting (Joined other text value) = value_for setting other value
 value_in setting (Apart other text value) = value_for setting other value
 
@@ -142,14 +152,29 @@ abbrev pub none_or_one : Option ℕ → List ℕ
 none_or_one None = []
 none_or_one (Some value) = value ∷ []
 
+abbrev pub flag_in : Item → ℕ
+flag_in (Operand word) = 0
+flag_in Flag = 1
+flag_in (Joined setting text value) = 0
+flag_in (Apart setting text value) = 0
+
+-- how often the flag stands
+abbrev pub flags : List Item → ℕ
+flags [] = 0
+flags (item ∷ items) = flag_in item + flags items
+
+abbrev pub zero_or_one : Bool → ℕ
+zero_or_one false = 0
+zero_or_one true = 1
+
 -- the end of the options with the words behind it, where it stands
 abbrev pub ended : Option (List (List ℕ)) → List (List ℕ)
 ended None = []
 ended (Some behind) = end_of_options ∷ behind
 
 -- The words are this command. The first names it, and behind it stand operands and options in any order, and then maybe
--- the end of the options, behind which every word is an operand. Each option stands at most once; its command takes
--- it; and the command takes as many files as there are operands.
+-- the end of the options, behind which every word is an operand. Each option stands at most once, and so does the flag; its
+-- command takes it; and the command takes as many files as there are operands.
 pub record IsCommand (words : List (List ℕ)) (command : Command) : Type 0 where
   pub verb : List ℕ
   pub items : List Item
@@ -160,7 +185,9 @@ pub record IsCommand (words : List (List ℕ)) (command : Command) : Type 0 wher
   pub units_once : none_or_one units ≡ values Units items
   pub handler : Option ℕ
   pub handler_once : none_or_one handler ≡ values Handler items
-  pub named : kind_of verb units handler ≡ Some command.kind
+  pub flagged : Bool
+  pub flagged_once : zero_or_one flagged ≡ flags items
+  pub named : kind_of verb units handler flagged ≡ Some command.kind
   pub files_are : command.files ≡ operands items ++ unwrap_or behind []
   pub number : IsTrue (takes command.kind (length command.files))
 
@@ -171,17 +198,18 @@ pub record Given : Type 0 where
   pub place : Place
   pub units : Option ℕ
   pub handler : Option ℕ
+  pub words : Bool
   pub files : List (List ℕ)
 
 abbrev pub nothing_given : Given
-nothing_given = record { place = Options; units = None; handler = None; files = [] }
+nothing_given = record { place = Options; units = None; handler = None; words = false; files = [] }
 
 abbrev pub units_given : Option ℕ → ℕ → Given → Option Given
-units_given None value g = Some (record { place = Options; units = Some value; handler = g.handler; files = g.files })
+units_given None value g = Some (record { place = Options; units = Some value; handler = g.handler; words = g.words; files = g.files })
 units_given (Some before) value g = None
 
 abbrev pub handler_given : Option ℕ → ℕ → Given → Option Given
-handler_given None value g = Some (record { place = Options; units = g.units; handler = Some value; files = g.files })
+handler_given None value g = Some (record { place = Options; units = g.units; handler = Some value; words = g.words; files = g.files })
 handler_given (Some before) value g = None
 
 -- An option has its value, where it had none.
@@ -190,15 +218,20 @@ with_value setting None g = None
 with_value Units (Some value) g = units_given g.units value g
 with_value Handler (Some value) g = handler_given g.handler value g
 
+-- The flag stands, where it didn't yet.
+abbrev pub flag_given : Bool → Given → Option Given
+flag_given false g = Some (record { place = Options; units = g.units; handler = g.handler; words = true; files = g.files })
+flag_given true g = None
+
 -- one more operand, where a command may have as many
 abbrev pub with_operand : List ℕ → Given → Option Given
 with_operand word g =
     if nat_le (length g.files) images_limit
-    then Some (record { place = g.place; units = g.units; handler = g.handler; files = g.files ++ word ∷ [] })
+    then Some (record { place = g.place; units = g.units; handler = g.handler; words = g.words; files = g.files ++ word ∷ [] })
     else None
 
 abbrev pub with_place : Place → Given → Given
-with_place place g = record { place = place; units = g.units; handler = g.handler; files = g.files }
+with_place place g = record { place = place; units = g.units; handler = g.handler; words = g.words; files = g.files }
 
 -- what stands behind such a front
 abbrev pub behind_front : List ℕ → List ℕ → Option (List ℕ)
@@ -215,7 +248,8 @@ abbrev pub with_option : List ℕ → Given → Option Given
 with_option word g =
     if bytes_eq word (name_of Units) then Some (with_place (Value Units) g)
     else (if bytes_eq word (name_of Handler) then Some (with_place (Value Handler) g)
-    else with_joined (behind_front (front_of Units) word) (behind_front (front_of Handler) word) g)
+    else (if bytes_eq word flag then flag_given g.words g
+    else with_joined (behind_front (front_of Units) word) (behind_front (front_of Handler) word) g))
 
 abbrev pub with_any : List ℕ → Given → Option Given
 with_any word g =
@@ -241,9 +275,9 @@ with_files (Some kind) files = if takes kind (length files) then Some (record { 
 
 -- No option waits for its value where the words end.
 abbrev pub command_at : Place → List ℕ → Given → Option Command
-command_at Options verb g = with_files (kind_of verb g.units g.handler) g.files
+command_at Options verb g = with_files (kind_of verb g.units g.handler g.words) g.files
 command_at (Value setting) verb g = None
-command_at Operands verb g = with_files (kind_of verb g.units g.handler) g.files
+command_at Operands verb g = with_files (kind_of verb g.units g.handler g.words) g.files
 
 abbrev pub command_with : List ℕ → Option Given → Option Command
 command_with verb None = None

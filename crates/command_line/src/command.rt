@@ -4,8 +4,13 @@ ghost use Rattle.command_line.specs.Command.{CommandsAreByRules, CommandsAreWith
 /// What the words of the command line ask for.
 #[derive(Clone, Copy, Debug, PartialEq, Eq)]
 pub enum Kind {
-    /// Run a script over images: at most so many units in the run, and in one handler.
-    Run { units: u64, handler: u64 },
+    /// Run a script over images: at most so many units in the run, and in one handler; and tell the words that are run,
+    /// or don't.
+    Run {
+        units: u64,
+        handler: u64,
+        words: bool,
+    },
     /// Make one file of another.
     Tool(Tool),
 }
@@ -50,8 +55,8 @@ pub enum Place {
 }
 
 /// Law: words are a command exactly where the rules of the command line say so, and then they are that one. The rules
-/// speak of operands and of options with their values; the definition that reads the words from the left has neither
-/// more commands nor fewer. The limits of a run are in their ranges, whether they are given or not.
+/// speak of operands, of options with their values and of the flag; the definition that reads the words from the left has
+/// neither more commands nor fewer. The limits of a run are in their ranges, whether they are given or not.
 pub fn commands_are_by_rules()
     ensures rules { CommandsAreByRules }
     ensures limits { CommandsAreWithinLimits }

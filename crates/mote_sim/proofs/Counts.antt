@@ -20,11 +20,11 @@ both_true true false e = absurd (cc)
 both_true false b e = absurd (cc)
 
 -- A run has an image, and no more than the limit.
-pub one_at_least : (units handler n : ℕ) → IsTrue (takes (kinds.Run units handler) (suc n)) → 1 ≤ n
-one_at_least units handler n is = let low = leb-true 2 (suc n) (both_true (nat_le 2 (suc n)) (nat_le (suc n) (1 + images_limit)) is).0 in omega (arith, low)
+pub one_at_least : (units handler : ℕ) (words : Bool) (n : ℕ) → IsTrue (takes (kinds.Run units handler words) (suc n)) → 1 ≤ n
+one_at_least units handler words n is = let low = leb-true 2 (suc n) (both_true (nat_le 2 (suc n)) (nat_le (suc n) (1 + images_limit)) is).0 in omega (arith, low)
 
-pub most_images : (units handler n : ℕ) → IsTrue (takes (kinds.Run units handler) (suc n)) → n ≤ images_limit
-most_images units handler n is =
+pub most_images : (units handler : ℕ) (words : Bool) (n : ℕ) → IsTrue (takes (kinds.Run units handler words) (suc n)) → n ≤ images_limit
+most_images units handler words n is =
     let high = leb-true (suc n) (1 + images_limit) (both_true (nat_le 2 (suc n)) (nat_le (suc n) (1 + images_limit)) is).1 in omega (arith, high)
 
 -- A command of one file has no second one.

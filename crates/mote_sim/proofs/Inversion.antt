@@ -65,18 +65,18 @@ all_whole kind (Longer n) text a = let e : Done ≡ Refused = a.0 in absurd (cc)
 all_whole kind Missing text a = absurd a
 
 -- What files other than the first come to: they are images within their limit.
-later_limit : (units handler number : ℕ) → 1 ≤ number → limit_of (kinds.Run units handler) number ≡ image_limit
-later_limit units handler zero low = absurd (omega (arith, low))
-later_limit units handler (suc n) low = ap (λ t. if t then script_limit else image_limit) (eqb-suc-zero n)
+later_limit : (units handler : ℕ) (words : Bool) (number : ℕ) → 1 ≤ number → limit_of (kinds.Run units handler words) number ≡ image_limit
+later_limit units handler words zero low = absurd (omega (arith, low))
+later_limit units handler words (suc n) low = ap (λ t. if t then script_limit else image_limit) (eqb-suc-zero n)
 
-images_whole : (units handler number : ℕ) (fs : List Named) (names files : List (List ℕ)) → 1 ≤ number → gathered_from (kinds.Run units handler) number fs names ≡ Whole files → AreImages fs names files
-images_whole units handler number fs [] [] low e = tt
-images_whole units handler number fs [] (file ∷ files) low e = absurd (cc)
-images_whole units handler number fs (name ∷ names) files low e =
-    let one = first_of number (limit_of (kinds.Run units handler) number) (held fs name) (gathered_from (kinds.Run units handler) (number + 1) fs names) files e in
-    let others = images_whole units handler (number + 1) fs names one.rest (omega (arith, low)) one.others_are in
+images_whole : (units handler : ℕ) (words : Bool) (number : ℕ) (fs : List Named) (names files : List (List ℕ)) → 1 ≤ number → gathered_from (kinds.Run units handler words) number fs names ≡ Whole files → AreImages fs names files
+images_whole units handler words number fs [] [] low e = tt
+images_whole units handler words number fs [] (file ∷ files) low e = absurd (cc)
+images_whole units handler words number fs (name ∷ names) files low e =
+    let one = first_of number (limit_of (kinds.Run units handler words) number) (held fs name) (gathered_from (kinds.Run units handler words) (number + 1) fs names) files e in
+    let others = images_whole units handler words (number + 1) fs names one.rest (omega (arith, low)) one.others_are in
     subst (AreImages fs (name ∷ names)) (sym one.files_are)
-    (one.held, subst (λ limit. length one.bytes ≤ limit) (later_limit units handler number low) one.fits, others)
+    (one.held, subst (λ limit. length one.bytes ≤ limit) (later_limit units handler words number low) one.fits, others)
 
 -- A run that is answered by Done has a script that is not refused.
 record Ran (units handler : ℕ) (images : List (List ℕ)) (events : List Event) (refused : Option ScriptError) (text : List ℕ) : Type 0 where
@@ -87,27 +87,27 @@ ran : (units handler : ℕ) (images : List (List ℕ)) (events : List Event) (re
 ran units handler images events (Some error) text a = let e : Done ≡ Refused = a.0 in absurd (cc)
 ran units handler images events None text a = record { none = refl; trace = a.1 }
 
-ran_from : (units handler : ℕ) (files images : List (List ℕ)) (script text : List ℕ) → files ≡ script ∷ images → Answers (outcome_by (kinds.Run units handler) files) Done text → Ran units handler images (events_of script) (refusal_of (length images) script) text
-ran_from units handler files images script text is a =
-    ran units handler images (events_of script) (refusal_of (length images) script) text (subst (λ xs. Answers (outcome_by (kinds.Run units handler) xs) Done text) is a)
+ran_from : (units handler : ℕ) (words : Bool) (files images : List (List ℕ)) (script text : List ℕ) → files ≡ script ∷ images → Answers (outcome_by (kinds.Run units handler words) files) Done text → Ran units handler images (events_of script) (refusal_of (length images) script) text
+ran_from units handler words files images script text is a =
+    ran units handler images (events_of script) (refusal_of (length images) script) text (subst (λ xs. Answers (outcome_by (kinds.Run units handler words) xs) Done text) is a)
 
-pub writes_run : (units handler : ℕ) (fs : List Named) (names : List (List ℕ)) (text before : List ℕ) (new : Option (List ℕ)) → HasItsFiles (record { kind = kinds.Run units handler; files = names }) → Answers (outcome_of (kinds.Run units handler) (gathered_from (kinds.Run units handler) 0 fs names)) Done text → new ≡ Some (before ++ text) → WritesRun units handler names fs before new
-writes_run units handler fs [] text before new few a written = absurd a
-writes_run units handler fs (s ∷ names) text before new few a written =
-    let w = all_whole (kinds.Run units handler) (gathered_from (kinds.Run units handler) 0 fs (s ∷ names)) text a in
-    let one = first_of 0 (limit_of (kinds.Run units handler) 0) (held fs s) (gathered_from (kinds.Run units handler) 1 fs names) w.files w.is in
-    let r = ran_from units handler w.files one.rest one.bytes text one.files_are w.answer in
+pub writes_run : (units handler : ℕ) (words : Bool) (fs : List Named) (names : List (List ℕ)) (text before : List ℕ) (new : Option (List ℕ)) → HasItsFiles (record { kind = kinds.Run units handler words; files = names }) → Answers (outcome_of (kinds.Run units handler words) (gathered_from (kinds.Run units handler words) 0 fs names)) Done text → new ≡ Some (before ++ text) → WritesRun units handler names fs before new
+writes_run units handler words fs [] text before new few a written = absurd a
+writes_run units handler words fs (s ∷ names) text before new few a written =
+    let w = all_whole (kinds.Run units handler words) (gathered_from (kinds.Run units handler words) 0 fs (s ∷ names)) text a in
+    let one = first_of 0 (limit_of (kinds.Run units handler words) 0) (held fs s) (gathered_from (kinds.Run units handler words) 1 fs names) w.files w.is in
+    let r = ran_from units handler words w.files one.rest one.bytes text one.files_are w.answer in
     record {
       script_name = s;
       image_names = names;
       named = refl;
-      least = one_at_least units handler (length names) few;
-      most = most_images units handler (length names) few;
+      least = one_at_least units handler words (length names) few;
+      most = most_images units handler words (length names) few;
       script = one.bytes;
       script_held = one.held;
       script_fits = one.fits;
       images = one.rest;
-      images_are = images_whole units handler 1 fs names one.rest (omega arith) one.others_are;
+      images_are = images_whole units handler words 1 fs names one.rest (omega arith) one.others_are;
       accepted = r.none;
       events = events_of one.bytes;
       events_are = refl;
@@ -134,8 +134,8 @@ script_is_command units handler (Some error) events images e = cc
 script_is_command units handler None events images e = cc
 
 by_is_command : (kind : Kind) (files : List (List ℕ)) → outcome_by kind files ≡ NoCommand → ⊥
-by_is_command (kinds.Run units handler) [] e = cc
-by_is_command (kinds.Run units handler) (script ∷ images) e = script_is_command units handler (refusal_of (length images) script) (events_of script) images e
+by_is_command (kinds.Run units handler words) [] e = cc
+by_is_command (kinds.Run units handler words) (script ∷ images) e = script_is_command units handler (refusal_of (length images) script) (events_of script) images e
 by_is_command (kinds.Tool tool) [] e = cc
 by_is_command (kinds.Tool tool) (file ∷ []) e = cc
 by_is_command (kinds.Tool tool) (file ∷ other ∷ files) e = cc

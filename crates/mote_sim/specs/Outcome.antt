@@ -34,9 +34,9 @@ outcome_of_script units handler None events images = Runs (run_input units handl
 -- By the bytes of a command's files: of `run` a script and its images, of a tool one file. (No command has other numbers
 -- of files.)
 abbrev pub outcome_by : Kind → List (List ℕ) → Outcome
-outcome_by (kinds.Run units handler) (script ∷ images) =
+outcome_by (kinds.Run units handler words) (script ∷ images) =
     outcome_of_script units handler (refusal_of (length images) script) (events_of script) images
-outcome_by (kinds.Run units handler) [] = Unheld
+outcome_by (kinds.Run units handler words) [] = Unheld
 outcome_by (kinds.Tool tool) (file ∷ []) = Makes tool file
 outcome_by (kinds.Tool tool) _ = Unheld
 

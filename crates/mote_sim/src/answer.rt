@@ -1,5 +1,5 @@
 //! The top call.
-ghost use Rattle.std.specs.Prelude.{◌≡◌, ◌≤◌, ◌⊎◌, IfOk, IsTrue, length, map, Some, None, true, false, List, ℕ};
+ghost use Rattle.std.specs.Prelude.{◌≡◌, ◌≤◌, ◌⊎◌, IfOk, IsTrue, length, map, Some, None, Bool, true, false, List, ℕ};
 ghost use Rattle.std.specs.List.{AllByRecursion};
 ghost use Rattle.mote_base.specs.Causes.{Rose};
 ghost use Rattle.mote_base.specs.Files.{Named};
@@ -147,7 +147,7 @@ fn perform<K: Sink>(alloc: Global, kind: Kind, files: &[Vec<u8>], out: &mut K) -
         (Answers (outcome_by kind (bytes_of files.now))) result }
 {
     match kind {
-        Kind::Run { units, handler } => match files {
+        Kind::Run { units, handler, .. } => match files {
             [script, images @ ..] => run(alloc, Limits { units, handler }, script, images, out),
             [] => unreachable!(),
         },
@@ -221,8 +221,8 @@ pub fn mote_main<F: Shelf, K: Sink>(
     // Done: every file was read whole. Of `run` the bytes added are the trace of a lawful run of them within its limits,
     // and of a tool they are what its definition makes of its file.
     ensures headline { result ≡ Status.Done →
-        (units handler : ℕ) (names : List (List ℕ)) (fs : List Named) (before : List ℕ) →
-        command_of words.now ≡ Some (record { kind = Kind.Run units handler; files = names }) →
+        (units handler : ℕ) (told : Bool) (names : List (List ℕ)) (fs : List Named) (before : List ℕ) →
+        command_of words.now ≡ Some (record { kind = Kind.Run units handler told; files = names }) →
         F.files shelf.old ≡ Some fs → K.written out.old ≡ Some before →
         WritesRun units handler names fs before (K.written out.new) }
     ensures tools { result ≡ Status.Done →

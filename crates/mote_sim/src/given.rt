@@ -1,6 +1,6 @@
 //! What the words of a command line say, read from the left.
 ghost use Rattle.std.specs.Prelude.{◌≡◌, Some, None, MatchOption};
-ghost use Rattle.command_line.specs.Command.{is_option, greatest, value_of, behind_front, front_of, nothing_given, units_given, handler_given, with_value, with_operand, with_option, with_any, with_word};
+ghost use Rattle.command_line.specs.Command.{is_option, greatest, value_of, behind_front, front_of, nothing_given, units_given, handler_given, flag_given, with_value, with_operand, with_option, with_any, with_word};
 ghost use Rattle.mote_sim.specs.Request.{Takes, waits};
 
 use crate::operands::Operands;
@@ -15,6 +15,7 @@ pub struct Given<'a> {
     place: Place,
     units: Option<u64>,
     handler: Option<u64>,
+    words: bool,
     operands: Operands<'a>,
 }
 
@@ -23,7 +24,7 @@ impl<'a> Model for Given<'a> {
 
     ghost Value = { Said };
 
-    ghost view = { λ g. record { place = g.place; units = g.units; handler = g.handler; files = g.operands } };
+    ghost view = { λ g. record { place = g.place; units = g.units; handler = g.handler; words = g.words; files = g.operands } };
 }
 
 fn is_option(word: &Word) -> bool
@@ -60,6 +61,7 @@ impl<'a> Given<'a> {
             place: Place::Options,
             units: None,
             handler: None,
+            words: false,
             operands: Operands::new(blank),
         }
     }
@@ -84,6 +86,18 @@ impl<'a> Given<'a> {
             return None;
         }
         self.handler = Some(value);
+        self.place = Place::Options;
+        Some(())
+    }
+
+    // The flag stands, where it didn't yet.
+    fn take_flag(&mut self) -> Option<()>
+        ensures { Takes result (flag_given self.old.words self.old) self.new }
+    {
+        if self.words {
+            return None;
+        }
+        self.words = true;
         self.place = Place::Options;
         Some(())
     }
@@ -121,6 +135,9 @@ impl<'a> Given<'a> {
         if word.text() == "--handler" {
             self.place = Place::Value(Setting::Handler);
             return Some(());
+        }
+        if word.text() == "--words" {
+            return self.take_flag();
         }
         if let Some(text) = behind_front(word, b"--units=") {
             return self.take_value(Setting::Units, text);
@@ -172,6 +189,13 @@ impl<'a> Given<'a> {
         ensures { result ≡ self.now.handler }
     {
         self.handler
+    }
+
+    /// Whether the words are to be told.
+    pub fn words(&self) -> bool
+        ensures { result ≡ self.now.words }
+    {
+        self.words
     }
 
     /// The operands.

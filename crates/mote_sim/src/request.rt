@@ -41,18 +41,19 @@ fn tool_of(verb: &Word) -> Option<Tool>
     }
 }
 
-// The command of that name with these limits.
-fn kind_of(verb: &Word, units: Option<u64>, handler: Option<u64>) -> Option<Kind>
-    ensures { result ≡ kind_of verb.now units handler }
+// The command of that name with these limits, and with the flag or without it.
+fn kind_of(verb: &Word, units: Option<u64>, handler: Option<u64>, words: bool) -> Option<Kind>
+    ensures { result ≡ kind_of verb.now units handler words }
 {
     if verb.text() == "run" {
         return Some(Kind::Run {
             units: units.unwrap_or(DEFAULT_UNITS),
             handler: handler.unwrap_or(DEFAULT_HANDLER_UNITS),
+            words,
         });
     }
-    match (units, handler) {
-        (None, None) => Some(Kind::Tool(tool_of(verb)?)),
+    match (units, handler, words) {
+        (None, None, false) => Some(Kind::Tool(tool_of(verb)?)),
         _ => None,
     }
 }
@@ -112,7 +113,7 @@ fn command_of<'a>(verb: &'a Word, words: &'a [Word]) -> Option<(Kind, Operands<'
     if given.waits() {
         return None;
     }
-    let kind = kind_of(verb, given.units(), given.handler())?;
+    let kind = kind_of(verb, given.units(), given.handler(), given.words())?;
     let files = given.into_operands();
     takes(kind, files.len()).then_some((kind, files))
 }

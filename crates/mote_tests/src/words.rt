@@ -84,6 +84,30 @@ mote: usage
 $2 run ---units 5 s a
 mote: usage
 
+$2 run --words --words s a
+mote: usage
+
+$2 run --words s a --words
+mote: usage
+
+$2 run --words=1 s a
+mote: usage
+
+$2 run --words= s a
+mote: usage
+
+$2 run --word s a
+mote: usage
+
+$2 run --units --words s a
+mote: usage
+
+$2 run --words s
+mote: usage
+
+$2 --words run s a
+mote: usage
+
 $2 -- run s a
 mote: usage
 
@@ -91,6 +115,12 @@ $2 list --units 5 a
 mote: usage
 
 $2 list --handler=5 a
+mote: usage
+
+$2 list --words a
+mote: usage
+
+$2 list a --words
 mote: usage
 
 $2 list -i
@@ -104,11 +134,13 @@ mote: usage
 ";
 
 const COMMANDS: &str = "\
-# The module that says 65, under three names.
+# The module that says 65, under four names, and a script without events, by which no word is run.
 @ a image 1 code E481 940E F108 9508
 @ - image 1 code E481 940E F108 9508
 @ -i image 1 code E481 940E F108 9508
+@ --words image 1 code E481 940E F108 9508
 @ s lines 0 load 0
+@ quiet lines # nothing
 
 $ run -- s -i
 0 load 1 0 0000;0 run 1 0 0;1 say 1 65;2 done 1;3 end idle
@@ -161,6 +193,27 @@ $ run --units 2 --handler 2 s a
 
 $ run --units 1000000000 --handler 1000000 s a
 0 load 1 0 0000;0 run 1 0 0;1 say 1 65;2 done 1;3 end idle
+
+$ run --words quiet a
+0 end idle
+
+$ run quiet --words a
+0 end idle
+
+$ run quiet a --words
+0 end idle
+
+$ run --units 2 --words quiet --handler=3 a --
+0 end idle
+
+$ run --words -- quiet --words
+0 end idle
+
+$ run -- s --words
+0 load 1 0 0000;0 run 1 0 0;1 say 1 65;2 done 1;3 end idle
+
+$ list -- --words
+0 0000 ldi r24,65;1 0001 kcall 8;2 0003 ret
 ";
 
 #[test]

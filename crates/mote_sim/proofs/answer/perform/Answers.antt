@@ -36,4 +36,4 @@ returns-in-len1-up g c =
     let files : c.script-item.result ∷ take (length c.args.files.now - 1) (drop 1 c.args.files.now) ≡ c.args.files.now = first_and_others c.args.files.now c.script-item.result c.in-len1-up.len_at_least c.script-item.is in
     ends_as _ _ _ _ _ _ (Answers (outcome_by c.args.kind (bytes_of c.args.files.now)))
     (λ s t a. subst (λ kind. Answers (outcome_by kind (bytes_of c.args.files.now)) s t) (sym c.in-Run.is)
-    (subst (λ xs. Answers (outcome_by (kinds.Run c.in-Run.units c.in-Run.handler) (bytes_of xs)) s t) files (rw (← c.deref.ensures.value) (counted c.in-Run.units c.in-Run.handler c.deref.result.now (take (length c.args.files.now - 1) (drop 1 c.args.files.now)) s t a)))) c.run.result c.run.ensures
+    (subst (λ xs. Answers (outcome_by (kinds.Run c.in-Run.units c.in-Run.handler c.in-Run.words) (bytes_of xs)) s t) files (rw (← c.deref.ensures.value) (counted c.in-Run.units c.in-Run.handler c.deref.result.now (take (length c.args.files.now - 1) (drop 1 c.args.files.now)) s t a)))) c.run.result c.run.ensures
