@@ -9,6 +9,7 @@ pub mod Inversion
 pub mod Judged
 pub mod OneFile
 pub mod PlainTurns
+pub mod Turning
 pub mod Prepared
 pub mod Pushed
 pub mod SomeBytes
