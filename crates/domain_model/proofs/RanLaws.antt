@@ -157,6 +157,9 @@ quiet_running : (o : Option Running) (k : KernelState) (r : RunnerState) → IsQ
 quiet_running None k r = refl
 quiet_running (Some run) k r = quiet_at (next_unit r run) run k r
 
+pub serve_without_ran : (o : Option Service) (run : Running) (k : KernelState) → without_ran (serve o run k).lines ≡ (serve o run k).lines
+serve_without_ran o run k = quiet_serve o run k
+
 pub act_without_ran : (k : KernelState) (r : RunnerState) → without_ran (act k r).lines ≡ (act k r).lines
 act_without_ran k r = quiet_running k.running k r
 

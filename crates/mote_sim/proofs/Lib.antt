@@ -10,6 +10,7 @@ pub mod Judged
 pub mod OneFile
 pub mod PlainTurns
 pub mod Turning
+pub mod Sound
 pub mod Prepared
 pub mod Pushed
 pub mod SomeBytes

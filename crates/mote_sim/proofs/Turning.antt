@@ -1,6 +1,6 @@
 -- Turns one after the other: they lead to one end, and what they wrote before stands in front of all that they write.
 use Rattle.std.proofs.Common.{◌≡◌, ◌≢◌, ◌∙◌, ◌⊎◌, inl, inr, ℕ, zero, suc, ◌≤◌, ◌<◌, List, [], ◌++◌, refl, sym, ap, subst, arith, append_assoc, append-nil}
-use Rattle.std.proofs.lemmas.Bool.{cases_le, cases_lt}
+use Rattle.std.proofs.lemmas.Bool.{cases_lt}
 use Rattle.domain_model.specs.declared.event.Choice.{Choice}
 use Rattle.domain_model.specs.declared.event.Choice.TheVariants.{Stays}
 use Rattle.domain_model.specs.declared.event.Turned.{Turned}
@@ -38,17 +38,17 @@ module _ {R : Type 0} (w : Workings R) where
   same_past : (n b : ℕ) (m : MoteValue R) → (turns w n m).value.ended ≢ More → n ≤ b → turns w b m ≡ turns w n m
   same_past n zero m over le = ap (λ k. turns w k m) (let none : zero ≡ n = omega (arith, le) in none)
   same_past n (suc b) m over le =
-      elim (cases_le n b) [
-        | inl within ↦ ap (one_more w) (same_past n b m over within) ∙ more_stays (turns w n m) over
-        | inr past ↦ ap (λ k. turns w k m) (let last : suc b ≡ n = omega (arith, le, past) in last)
+      elim (cases_lt b n) [
+        | inr within ↦ ap (one_more w) (same_past n b m over within) ∙ more_stays (turns w n m) over
+        | inl past ↦ ap (λ k. turns w k m) (let last : suc b ≡ n = omega (arith, le, past) in last)
       ]
 
   -- Two ends of one mote's turns are one.
   ends_alike : (m : MoteValue R) (a b : Turning R) (n k : ℕ) → turns w n m ≡ a → turns w k m ≡ b → a.value.ended ≢ More → b.value.ended ≢ More → a ≡ b
   ends_alike m a b n k first second over_a over_b =
-      elim (cases_le n k) [
-        | inl low ↦ sym first ∙ sym (same_past n k m (subst (λ (t : Turning R). t.value.ended ≢ More) (sym first) over_a) low) ∙ second
-        | inr high ↦
+      elim (cases_lt k n) [
+        | inr low ↦ sym first ∙ sym (same_past n k m (subst (λ (t : Turning R). t.value.ended ≢ More) (sym first) over_a) low) ∙ second
+        | inl high ↦
             let le : k ≤ n = omega (arith, high) in
             sym first ∙ same_past k n m (subst (λ (t : Turning R). t.value.ended ≢ More) (sym second) over_b) le ∙ second
       ]
@@ -63,23 +63,23 @@ module _ {R : Type 0} (w : Workings R) where
       let none : zero ≡ n = omega (arith, le) in
       ([], ap (λ k. (turns w k m).lines) none ∙ sym (append-nil (turns w n m).lines))
   front_of n (suc b) m le =
-      elim (cases_le n b) [
-        | inl within ↦
+      elim (cases_lt b n) [
+        | inr within ↦
             let before = front_of n b m within in
             let next : List TraceLine = (turned w (turns w b m).value).lines in
             (before.0 ++ next, ap (λ ls. ls ++ next) before.1 ∙ append_assoc (turns w n m).lines before.0 next)
-        | inr past ↦
+        | inl past ↦
             let last : suc b ≡ n = omega (arith, le, past) in
             ([], ap (λ k. (turns w k m).lines) last ∙ sym (append-nil (turns w n m).lines))
       ]
 
   told_first : (m : MoteValue R) (told whole : Turning R) (n k : ℕ) → turns w n m ≡ told → turns w k m ≡ whole → whole.value.ended ≢ More → (rest : List TraceLine) × (whole.lines ≡ told.lines ++ rest)
   told_first m told whole n k first second over =
-      elim (cases_le n k) [
-        | inl low ↦
+      elim (cases_lt k n) [
+        | inr low ↦
             let front = front_of n k m low in
             (front.0, ap (λ (t : Turning R). t.lines) (sym second) ∙ front.1 ∙ ap (λ (t : Turning R). t.lines ++ front.0) first)
-        | inr high ↦
+        | inl high ↦
             let le : k ≤ n = omega (arith, high) in
             let same : told ≡ whole = sym first ∙ same_past k n m (subst (λ (t : Turning R). t.value.ended ≢ More) (sym second) over) le ∙ second in
             ([], ap (λ (t : Turning R). t.lines) (sym same) ∙ sym (append-nil told.lines))
