@@ -1,10 +1,10 @@
 -- How far the clock of a mote can be, and what is due.
-use Rattle.std.proofs.Common.{◌≡◌, ◌∙◌, ◌≤◌, ◌^◌, ◌⊎◌, ℕ, inl, inr, List, [], ◌∷◌, Bool, true, false, nat_le, Option, Some, None, slice_get, refl, sym, ap, arith}
+use Rattle.std.proofs.Common.{◌≡◌, ◌≤◌, ◌^◌, ℕ, inl, inr, List, [], ◌∷◌, true, false, nat_le, Some, None, slice_get, refl, sym, ap, arith}
 use Rattle.std.proofs.lemmas.Option.{none-some, same_Some}
 use Rattle.domain_model.specs.declared.event.Choice.TheVariants.{Jumps}
 use Rattle.domain_model.specs.Events.{is_due}
 use Rattle.domain_model.specs.Facts.{Facts}
-use Rattle.domain_model.specs.Good.{Good, is_ahead, latest, longest_wait}
+use Rattle.domain_model.specs.Good.{Good, is_ahead}
 use Rattle.domain_model.specs.State.{State}
 use Rattle.domain_model.proofs.ClockLaws.{first_within, latest_more}
 use Rattle.domain_model.proofs.TimeLaws.{next_below}

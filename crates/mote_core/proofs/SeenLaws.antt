@@ -1,5 +1,5 @@
 -- The runner's own value behind a turn, seen by the machine, is the machine's runner behind its turn.
-use Rattle.std.proofs.Common.{◌≡◌, ◌∙◌, ℕ, List, [], Result, Ok, Err, Option, None, Some, map, refl, sym, ap, slice_get}
+use Rattle.std.proofs.Common.{◌≡◌, ◌∙◌, ℕ, List, [], ◌∷◌, ◌++◌, Result, Ok, Err, Option, None, Some, map, refl, sym, ap, slice_get}
 use Rattle.std.proofs.lemmas.Option.{same_Some, slice_get-map}
 use Rattle.std.specs.Option.{option_map}
 use Rattle.std.specs.Result.{result_ok}
@@ -14,12 +14,13 @@ use Rattle.domain_model.specs.declared.fault.UnitEnd.{UnitEnd}
 use Rattle.domain_model.specs.declared.fault.UnitEnd.TheVariants.{On, Over, Fault}
 use Rattle.domain_model.specs.declared.handler.Running.{Running}
 use Rattle.domain_model.specs.declared.line.TraceLine.{TraceLine}
+use Rattle.domain_model.specs.declared.line.TraceLine.TheVariants as line
 use Rattle.domain_model.specs.Act.{Acted}
 use Rattle.domain_model.specs.Modules.{id_at, module_named}
 use Rattle.domain_model.specs.Prepared.{Prep}
-use Rattle.domain_model.specs.Runners.{without_ran, without_ran_lines}
+use Rattle.domain_model.specs.Runners.{without_ran_lines}
 use Rattle.domain_model.specs.State.{KernelState, Loaded, Message, RunnerState, State}
-use Rattle.domain_model.specs.Turn.{Made, Moved, came, choice, close, close_module, deliver, dispatch, emptied, entered, faulted, handler_ended, hear, load_image, load_prepared, made, placed, purged, settled, unload_module, watchdog}
+use Rattle.domain_model.specs.Turn.{Made, Moved, came, choice, close, close_module, deliver, dispatch, entered, faulted, handler_ended, hear, load_image, load_prepared, made, placed, purged, settled, unload_module, watchdog}
 use Rattle.domain_model.proofs.RanLaws.{state_without_ran, lines_without_ran}
 use Rattle.mod_loader.specs.declared.refusal.LoadRefusal.{LoadRefusal}
 use Rattle.mod_loader.specs.Banks.{Banked, Readied, code_of, prepared_of}
@@ -30,8 +31,8 @@ use Rattle.mote_core.specs.Value.{MoteValue, acted, made_by, state_of}
 use Rattle.mote_core.proofs.Loading.{LoadsAs, loading_loads}
 
 -- a module that was held
-same_banked : (b x : Banked) → Ok b ≡ Ok x → x ≡ b
-same_banked b x e = sym (same_Some b x (ap (λ (r : Readied). result_ok r) e))
+same_banked : (p : Readied) (b x : Banked) → p ≡ Ok b → p ≡ Ok x → x ≡ b
+same_banked p b x e h = sym (same_Some b x (sym (ap (λ (r : Readied). result_ok r) e) ∙ ap (λ (r : Readied). result_ok r) h))
 
 -- images and limits stay
 rest_stays : (c : Choice) (s : State) (got : Acted) → record s { kernel = (made c s got).state.kernel; runner = (made c s got).state.runner; packets = (made c s got).state.packets; events = (made c s got).state.events; total = (made c s got).state.total; spent = (made c s got).state.spent; ended = (made c s got).state.ended } ≡ (made c s got).state
@@ -68,7 +69,7 @@ module _ {R : Type 0} (w : Workings R) (lawful : AreLawful w) where
   -- a load
   answer_seen : (a : Result ℕ LoadRefusal) (b : Banked) (image : ℕ) (k new : KernelState) (r : R) (end : Moved) → LoadsAs a (Ok b) image k (w.part r) new end → w.part (loaded_into w.placed_by w.entered_by a b r) ≡ end.runner
   answer_seen (Ok domain) b image k new r end i =
-      let same : i.banked ≡ b = same_banked b i.banked i.held in
+      let same : i.banked ≡ b = same_banked (Ok b) b i.banked refl i.held in
       lawful.entered_law (w.placed_by r domain (code_of b)) domain b.loadable.handler
       ∙ ap (λ (x : RunnerState). entered x b.loadable.handler) (lawful.placed_law r domain (code_of b))
       ∙ ap (λ (x : Banked). entered (placed (w.part r) domain x.loadable.units) x.loadable.handler) (sym same)
@@ -100,11 +101,13 @@ module _ {R : Type 0} (w : Workings R) (lawful : AreLawful w) where
   closed_seen None k r lines = refl
   closed_seen (Some id) k r lines = cleared_seen (module_named k.modules id) k r lines
 
-  -- the lines tell nothing of the runner
   fault_seen : (note : FaultNote) (run : Running) (k : KernelState) (r : R) (lines : List TraceLine) → w.part (faulted_by w.cleared_by run k r) ≡ (faulted note run k (w.part r) lines).runner
   fault_seen note run k r lines =
-      closed_seen k.ending (purged (handler_ended k) (id_at k.modules run.domain) run.domain) (w.cleared_by r run.domain) _
-      ∙ ap (λ (x : RunnerState). (close k.ending (purged (handler_ended k) (id_at k.modules run.domain) run.domain) x _).runner) (lawful.cleared_law r run.domain)
+      let id : ℕ = id_at k.modules run.domain in
+      let without : KernelState = purged (handler_ended k) id run.domain in
+      let told : List TraceLine = lines ++ line.Fault k.clock note.rule id (w.part r).unit note.address ∷ line.Unload k.clock id ∷ [] in
+      closed_seen k.ending without (w.cleared_by r run.domain) told
+      ∙ ap (λ (x : RunnerState). (close k.ending without x told).runner) (lawful.cleared_law r run.domain)
 
   settled_seen : (end : UnitEnd) (run : Running) (k : KernelState) (r : R) (lines : List TraceLine) → w.part (settled_by w.cleared_by end run k r) ≡ (settled end run k (w.part r) lines).runner
   settled_seen On run k r lines = refl

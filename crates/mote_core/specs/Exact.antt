@@ -1,5 +1,5 @@
 -- Turns of a mote, in the values of its own runner. Of all else the machine says what a turn makes.
-use Rattle.std.specs.Prelude.{ℕ, List, [], Option, Some, None, Result, Ok, Err, slice_get}
+use Rattle.std.specs.Prelude.{ℕ, List, Option, Some, None, Result, Ok, Err, slice_get}
 use Rattle.mote_base.specs.Messages.{front}
 use Rattle.unit_code.specs.Listing.{BankListing}
 use Rattle.domain_model.specs.declared.event.Choice.{Choice}
@@ -80,6 +80,10 @@ settled_by clear On run k r = r
 settled_by clear Over run k r = closed_by clear k.ending k.modules r
 settled_by clear (Fault note) run k r = faulted_by clear run k r
 
+-- and behind the unit, with what its end asks for
+abbrev pub ran_by : {R : Type 0} → (R → ℕ → R) → Running → ActedBy R → R
+ran_by clear run got = settled_by clear got.ending run got.kernel got.runner
+
 -- The runner behind a turn.
 abbrev pub runner_after : {R : Type 0} → Workings R → Choice → MoteValue R → R
 runner_after w Stays m = m.runner
@@ -91,9 +95,7 @@ runner_after w (Jumps now) m = m.runner
 runner_after w Idles m = m.runner
 runner_after w Budgets m = m.runner
 runner_after w (Watches run) m = faulted_by w.cleared_by run m.kernel m.runner
-runner_after w (Acts run) m =
-    let got = w.acts m.kernel m.runner in
-    settled_by w.cleared_by got.ending run got.kernel got.runner
+runner_after w (Acts run) m = ran_by w.cleared_by run (w.acts m.kernel m.runner)
 
 -- The mote with this runner, and in all else that a turn may change as in a state of the machine. Its images and its limits stay.
 abbrev pub moved_to : {R : Type 0} → State → R → MoteValue R → MoteValue R

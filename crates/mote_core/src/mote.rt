@@ -12,7 +12,7 @@ ghost use Rattle.domain_model.specs.Runners.{without_ran, without_ran_lines};
 ghost use Rattle.domain_model.specs.State.{begins, no_runner};
 ghost use Rattle.domain_model.specs.Turn.{May, choice, choose_inside, choose_message, choose_outside, choose_running, choose_timer};
 ghost use Rattle.mod_loader.specs.Banks.{prepared_of};
-ghost use Rattle.mote_core.specs.Exact.{came_by, dispatched_by, faulted_by, moved_to, settled_by, starting, turned, turned_by};
+ghost use Rattle.mote_core.specs.Exact.{came_by, dispatched_by, faulted_by, moved_to, ran_by, starting, turned, turned_by};
 ghost use Rattle.mote_core.specs.Value.{acted, made_by, state_of};
 
 use crate::agenda::Agenda;
@@ -142,12 +142,13 @@ impl<R: Runner> Mote<R> {
             (made_by R.Runner.part R.Runner.acts (choice (state_of R.Runner.part self.old)) self.old).state }
         ensures lines { lines.new ≡
             (made_by R.Runner.part R.Runner.acts (choice (state_of R.Runner.part self.old)) self.old).lines }
+        // The same in the runner's own value, of which the machine sees a part.
         ensures exact { (record { value = self.new; lines = lines.new }) ≡ turned (record {
-            part = R.Runner.part;
-            acts = R.Runner.acts;
-            placed_by = R.Runner.placed_by;
-            cleared_by = R.Runner.cleared_by;
-            entered_by = R.Runner.entered_by;
+          part = R.Runner.part;
+          acts = R.Runner.acts;
+          placed_by = R.Runner.placed_by;
+          cleared_by = R.Runner.cleared_by;
+          entered_by = R.Runner.entered_by;
         }) self.old }
         ensures lawful { LawfulTurn (state_of R.Runner.part self.old) (state_of R.Runner.part self.new)
             (without_ran lines.new) }
@@ -240,11 +241,11 @@ impl<R: Runner> Mote<R> {
         ensures state { state_of R.Runner.part self.new ≡ (made_by R.Runner.part R.Runner.acts next self.old).state }
         ensures lines { lines.new ≡ (made_by R.Runner.part R.Runner.acts next self.old).lines }
         ensures exact { self.new ≡ (turned_by (record {
-            part = R.Runner.part;
-            acts = R.Runner.acts;
-            placed_by = R.Runner.placed_by;
-            cleared_by = R.Runner.cleared_by;
-            entered_by = R.Runner.entered_by;
+          part = R.Runner.part;
+          acts = R.Runner.acts;
+          placed_by = R.Runner.placed_by;
+          cleared_by = R.Runner.cleared_by;
+          entered_by = R.Runner.entered_by;
         }) next self.old).value }
         ensures may { May next (state_of R.Runner.part self.old)
             (without_ran_lines (acted R.Runner.part R.Runner.acts self.old)) }
@@ -388,8 +389,7 @@ impl<R: Runner> Mote<R> {
         ensures state { state_of R.Runner.part self.new ≡
             (made_by R.Runner.part R.Runner.acts (Choice.Acts run.now) self.old).state }
         ensures exact { self.new ≡ moved_to (made_by R.Runner.part R.Runner.acts (Choice.Acts run.now) self.old).state
-            (settled_by R.Runner.cleared_by (R.Runner.acts self.old.kernel self.old.runner).ending run.now
-                (R.Runner.acts self.old.kernel self.old.runner).kernel (R.Runner.acts self.old.kernel self.old.runner).runner) self.old }
+            (ran_by R.Runner.cleared_by run.now (R.Runner.acts self.old.kernel self.old.runner)) self.old }
         ensures lines { lines.new ≡ (made_by R.Runner.part R.Runner.acts (Choice.Acts run.now) self.old).lines }
         ensures may { UnitStep self.old.kernel (R.Runner.part self.old.runner)
             (without_ran_lines (acted R.Runner.part R.Runner.acts self.old)) }
