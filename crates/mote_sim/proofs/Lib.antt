@@ -8,9 +8,10 @@ pub mod Counts
 pub mod Inversion
 pub mod Judged
 pub mod OneFile
-pub mod PlainTurns
 pub mod Turning
 pub mod Sound
+pub mod Untelling
+pub mod Readied
 pub mod Prepared
 pub mod Pushed
 pub mod SomeBytes

@@ -37,7 +37,7 @@ use Rattle.mote_core.specs.Exact.{Turning, Workings, came_by, closed_by, dispatc
 use Rattle.mote_core.specs.Seen.{AreLawful, seen}
 use Rattle.mote_core.specs.Value.{MoteValue, acted, state_of}
 use Rattle.mote_core.proofs.SeenLaws.{turn_is_seen}
-use Rattle.mote_sim.specs.Turns.{Ends, Leads, one_more, turns}
+use Rattle.mote_sim.specs.Turns.{EndsAt, LeadsTo, one_more, turns}
 use Rattle.mote_sim.proofs.Turning.{more_stays, stands}
 
 -- What a runner keeps through all of its workings: it is another's place of what is placed, cleared and entered, and of a unit that
@@ -184,11 +184,11 @@ module _ {R : Type 0} (w : Workings R) (holds : R → Type 0) (keeps : AreKept w
       (runs_on n m sound [] (over (subst (λ (x : Turning R). x.value.ended ≢ More) (sym are) done))))
 
   -- The run of a sound mote is lawful,
-  pub lawful_end : (m : MoteValue R) (lines : List TraceLine) (last : MoteValue R) → IsSound w holds m → Ends w m lines last → LawfulRunFrom (state_of w.part m) (without_ran lines)
+  pub lawful_end : (m : MoteValue R) (lines : List TraceLine) (last : MoteValue R) → IsSound w holds m → EndsAt w m lines last → LawfulRunFrom (state_of w.part m) (without_ran lines)
   lawful_end m lines last sound e = lawful_to e.leads.count m (record { value = last; lines = lines }) sound e.leads.are e.ended
 
   -- and it comes to an end.
-  ends_within : (fuel n : ℕ) (m : MoteValue R) → IsSound w holds m → remaining (state_of w.part (turns w n m).value) < fuel → (lines : List TraceLine) × (last : MoteValue R) × Ends w m lines last
+  ends_within : (fuel n : ℕ) (m : MoteValue R) → IsSound w holds m → remaining (state_of w.part (turns w n m).value) < fuel → (lines : List TraceLine) × (last : MoteValue R) × EndsAt w m lines last
   ends_within zero n m sound few = absurd (omega (arith, few))
   ends_within (suc fuel) n m sound few =
       let t : Turning R = turns w n m in
@@ -200,5 +200,5 @@ module _ {R : Type 0} (w : Workings R) (holds : R → Type 0) (keeps : AreKept w
             ends_within fuel (suc n) m sound (omega (arith, fewer, few))
       ]
 
-  pub comes_to_end : (m : MoteValue R) → IsSound w holds m → (lines : List TraceLine) × (last : MoteValue R) × Ends w m lines last
+  pub comes_to_end : (m : MoteValue R) → IsSound w holds m → (lines : List TraceLine) × (last : MoteValue R) × EndsAt w m lines last
   comes_to_end m sound = ends_within (remaining (state_of w.part m) + 1) zero m sound (omega arith)

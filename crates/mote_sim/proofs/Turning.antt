@@ -10,7 +10,7 @@ use Rattle.domain_model.specs.State.{State}
 use Rattle.domain_model.specs.Turn.{choice, choose_ended}
 use Rattle.mote_core.specs.Exact.{Turning, Workings, turned, turned_by}
 use Rattle.mote_core.specs.Value.{MoteValue, state_of}
-use Rattle.mote_sim.specs.Turns.{Ends, Leads, one_more, turns}
+use Rattle.mote_sim.specs.Turns.{EndsAt, LeadsTo, one_more, turns}
 
 -- a run goes on or has ended
 pub stands : (t : Turned) → (t ≡ More) ⊎ (t ≢ More)
@@ -53,7 +53,7 @@ module _ {R : Type 0} (w : Workings R) where
             sym first ∙ same_past k n m (subst (λ (t : Turning R). t.value.ended ≢ More) (sym second) over_b) le ∙ second
       ]
 
-  pub one_end : (m : MoteValue R) (lines others : List TraceLine) (last other : MoteValue R) → Ends w m lines last → Ends w m others other → record { value = last; lines = lines } ≡ record { value = other; lines = others }
+  pub one_end : (m : MoteValue R) (lines others : List TraceLine) (last other : MoteValue R) → EndsAt w m lines last → EndsAt w m others other → record { value = last; lines = lines } ≡ record { value = other; lines = others }
   one_end m lines others last other a b =
       ends_alike m (record { value = last; lines = lines }) (record { value = other; lines = others }) a.leads.count b.leads.count a.leads.are b.leads.are a.ended b.ended
 
@@ -85,15 +85,15 @@ module _ {R : Type 0} (w : Workings R) where
             ([], ap (λ (t : Turning R). t.lines) (sym same) ∙ sym (append-nil told.lines))
       ]
 
-  pub front_of_end : (m : MoteValue R) (told whole : List TraceLine) (now last : MoteValue R) → Leads w m told now → Ends w m whole last → (rest : List TraceLine) × (whole ≡ told ++ rest)
+  pub front_of_end : (m : MoteValue R) (told whole : List TraceLine) (now last : MoteValue R) → LeadsTo w m told now → EndsAt w m whole last → (rest : List TraceLine) × (whole ≡ told ++ rest)
   front_of_end m told whole now last a b =
       told_first m (record { value = now; lines = told }) (record { value = last; lines = whole }) a.count b.leads.count a.are b.leads.are b.ended
 
   -- before the first turn, and behind one more
-  pub leads_start : (m : MoteValue R) → Leads w m [] m
+  pub leads_start : (m : MoteValue R) → LeadsTo w m [] m
   leads_start m = record { count = zero; are = refl }
 
-  pub leads_more : (m here there : MoteValue R) (told lines : List TraceLine) → Leads w m told here → record { value = there; lines = lines } ≡ turned w here → Leads w m (told ++ lines) there
+  pub leads_more : (m here there : MoteValue R) (told lines : List TraceLine) → LeadsTo w m told here → record { value = there; lines = lines } ≡ turned w here → LeadsTo w m (told ++ lines) there
   leads_more m here there told lines so_far is = record {
     count = suc so_far.count;
     are = ap (one_more w) so_far.are ∙ ap (λ (t : Turning R). record { value = t.value; lines = told ++ t.lines }) (sym is);

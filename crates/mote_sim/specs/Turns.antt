@@ -15,11 +15,11 @@ turns w zero m = record { value = m; lines = [] }
 turns w (suc count) m = one_more w (turns w count m)
 
 -- Turns lead from one mote to another, and these are their lines, with those of the instructions that ran.
-pub record Leads {R : Type 0} (w : Workings R) (m : MoteValue R) (lines : List TraceLine) (now : MoteValue R) : Type 0 where
+pub record LeadsTo {R : Type 0} (w : Workings R) (m : MoteValue R) (lines : List TraceLine) (now : MoteValue R) : Type 0 where
   pub count : ℕ
   pub are : turns w count m ≡ record { value = now; lines = lines }
 
 -- They lead to an end.
-pub record Ends {R : Type 0} (w : Workings R) (m : MoteValue R) (lines : List TraceLine) (last : MoteValue R) : Type 0 where
-  pub leads : Leads w m lines last
+pub record EndsAt {R : Type 0} (w : Workings R) (m : MoteValue R) (lines : List TraceLine) (last : MoteValue R) : Type 0 where
+  pub leads : LeadsTo w m lines last
   pub ended : last.ended ≢ More

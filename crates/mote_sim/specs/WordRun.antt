@@ -10,7 +10,7 @@ use Rattle.word_run.specs.WordRun.{words_act}
 use Rattle.mod_loader.specs.Banks.{AreSpelled, HasItsWords, Readied, prepared_of}
 use Rattle.mote_core.specs.Exact.{Workings, starting}
 use Rattle.mote_core.specs.Value.{MoteValue}
-use Rattle.mote_sim.specs.Turns.{Ends}
+use Rattle.mote_sim.specs.Turns.{EndsAt}
 
 -- How the runner of words works.
 abbrev pub by_words : Workings FlashValue
@@ -45,4 +45,4 @@ pub record IsWordRun (i : Input) (words : Bool) (lines : List TraceLine) : Type 
   pub images : List Readied
   pub readied : AreReadied i.images images
   pub last : MoteValue FlashValue
-  pub ends : Ends by_words (word_start i images words) lines last
+  pub ends : EndsAt by_words (word_start i images words) lines last

@@ -1,1 +1,2 @@
 pub mod FewLines
+pub mod Untold

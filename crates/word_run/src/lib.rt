@@ -13,5 +13,7 @@
 #![tactic(auto)]
 
 mod laws;
+mod telling;
 
 pub use laws::words_write_few_lines;
+pub use telling::telling_adds_lines;

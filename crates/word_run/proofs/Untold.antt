@@ -25,15 +25,8 @@ use Rattle.kernel_call.specs.declared.calls.SlotEnd.TheVariants as slot_end
 use Rattle.kernel_call.specs.Calling.{SlotCalling, Returning, called_slot, entered_slot, returning, slot_by}
 use Rattle.word_run.specs.FlashValue.{FlashValue, entry_point, unit_at}
 use Rattle.word_run.specs.Entries.{Way, Goes, Ends, Reached, back_kernel, called_row, entry_row, group_guarded, group_under, guarded, indirect_called, local_from, returned_from, returned_way, room_made, slot_from, slot_way}
+use Rattle.word_run.specs.Telling.{TellingAddsLines, quietly, untold}
 use Rattle.word_run.specs.WordRun.{WordsActed, after_one, arrived, at_entry, begun_lines, behind, ends_as, goes_by, goes_from, goes_in, goes_on, instruction_limit, one_step, ran_lines, run_from, words_act, words_by}
-
--- the runner that tells none
-abbrev pub untold : FlashValue → FlashValue
-untold v = record v { tells = false }
-
--- A unit whose instructions are not told.
-abbrev pub quietly : WordsActed → WordsActed
-quietly got = record { kernel = got.kernel; runner = untold got.runner; lines = without_ran got.lines; ending = got.ending }
 
 -- An entry looks at the words alone, and not at whether they are told.
 returned_same : (a : Returned) (v : FlashValue) → returned_way a (untold v) ≡ returned_way a v
@@ -196,5 +189,5 @@ by_quietly_all None k v = refl
 by_quietly_all (Some run) k v = run_quietly instruction_limit v run k (entry_point v run.domain v.unit)
 
 -- and so the unit.
-pub acts_untold : (k : KernelState) (v : FlashValue) → words_act k (untold v) ≡ quietly (words_act k v)
+pub acts_untold : TellingAddsLines
 acts_untold k v = by_quietly_all k.running k v
