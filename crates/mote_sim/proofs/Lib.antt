@@ -12,6 +12,8 @@ pub mod Turning
 pub mod Sound
 pub mod Untelling
 pub mod Readied
+pub mod WordRuns
+pub mod WordLines
 pub mod Prepared
 pub mod Pushed
 pub mod SomeBytes

@@ -5,6 +5,7 @@ pub mod Refusal
 pub mod Tools
 pub mod Turns
 pub mod WordRun
+pub mod WordLaws
 pub mod Trace
 pub mod Listing
 pub mod Outcome

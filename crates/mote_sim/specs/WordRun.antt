@@ -7,7 +7,7 @@ use Rattle.domain_model.specs.Prepared.{prepared}
 use Rattle.domain_model.specs.State.{Input}
 use Rattle.word_run.specs.FlashValue.{FlashValue, no_words, part, words_cleared, words_entered, words_placed}
 use Rattle.word_run.specs.WordRun.{words_act}
-use Rattle.mod_loader.specs.Banks.{AreSpelled, HasItsWords, Readied, prepared_of}
+use Rattle.mod_loader.specs.Banks.{AreWordsFor, Banked, Readied, SpellUnits, code_of, prepared_of}
 use Rattle.mote_core.specs.Exact.{Workings, starting}
 use Rattle.mote_core.specs.Value.{MoteValue}
 use Rattle.mote_sim.specs.Turns.{EndsAt}
@@ -23,11 +23,22 @@ by_words =
       entered_by = words_entered;
     }
 
--- What a file comes to, with words: those of the image where a rewriter made it, and else those that the rewriter gives to its units.
+-- The file is the image of a module, with these words: a rewriter's image has its own, and any other those that the rewriter gives to
+-- its units. They spell the units.
+pub record HasWords (file : List ℕ) (b : Banked) : Type 0 where
+  pub contents : Contents
+  pub image : Image file contents
+  pub words : AreWordsFor (code_of b) contents
+  pub spelled : SpellUnits (code_of b) b.loadable.sealed
+
+abbrev pub HasWordsOrNone : List ℕ → Readied → Type 0
+HasWordsOrNone file (Err refusal) = ⊤
+HasWordsOrNone file (Ok b) = HasWords file b
+
+-- What a file comes to, with words.
 pub record IsReadied (file : List ℕ) (r : Readied) : Type 0 where
   pub prepares : prepared_of r ≡ prepared file
-  pub words : (c : Contents) → Image file c → HasItsWords r c
-  pub spelled : AreSpelled r
+  pub words : HasWordsOrNone file r
 
 abbrev pub AreReadied : List (List ℕ) → List Readied → Type 0
 AreReadied [] [] = ⊤

@@ -19,6 +19,7 @@ mod assembling;
 mod certain;
 mod given;
 mod judging;
+mod laws;
 mod listing;
 mod one_line;
 mod operands;
@@ -30,3 +31,4 @@ mod sealing;
 
 pub use answer::mote_main;
 pub use certain::certain_status;
+pub use laws::word_runs_are_one;
