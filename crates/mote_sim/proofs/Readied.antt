@@ -1,7 +1,6 @@
 -- What files come to with words: one thing each, and the words spell the units.
-use Rattle.std.proofs.Common.{◌≡◌, ◌∙◌, ℕ, ◌<◌, ◌^◌, ◌⊎◌, inl, inr, List, [], ◌∷◌, ◌++◌, Bool, true, false, Result, Ok, Err, map, refl, sym, ap, subst}
+use Rattle.std.proofs.Common.{◌≡◌, ◌∙◌, ℕ, zero, suc, ◌<◌, ◌^◌, List, [], ◌∷◌, ◌++◌, Bool, true, false, Result, Ok, Err, map, refl, sym, ap, subst, arith}
 use Rattle.std.specs.List.{AllByRecursion}
-use Rattle.std.proofs.lemmas.Bool.{cases_Bool}
 use Rattle.unit_code.specs.declared.unit.Unit.{Unit}
 use Rattle.unit_code.specs.Spelling.{Spells}
 use Rattle.harbor_spell.proofs.OneSpelling.{one_spelling}
@@ -11,18 +10,24 @@ use Rattle.module_image.specs.declared.error.ImageError.{ImageError}
 use Rattle.module_image.specs.Contents.{Contents}
 use Rattle.module_image.specs.Reading.{image_of}
 use Rattle.module_image.specs.Spelling.{Image}
-use Rattle.module_image.proofs.Fields.{ok_is}
+use Rattle.module_image.proofs.Fields.{IsBytes, ok_is}
 use Rattle.module_image.proofs.Images.{image_read, image_takes}
 use Rattle.domain_model.specs.declared.refusal.Refusal.{Refusal}
 use Rattle.domain_model.specs.Prepared.{Module, Prep, prepared, prepared_image}
 use Rattle.mod_loader.specs.Banks.{AreSpelled, AreWordsFor, Banked, HasItsWords, Readied, SpellUnits, code_of, prepared_of}
 use Rattle.mote_sim.specs.WordRun.{AreReadied, HasWords, HasWordsOrNone, IsReadied}
 
+-- bytes, looked up by their places
+are_bytes : (bytes : List ℕ) → AllByRecursion (λ byte. byte < 256) bytes → IsBytes bytes
+are_bytes [] each i = omega arith
+are_bytes (b ∷ bs) each zero = each.0
+are_bytes (b ∷ bs) each (suc i) = are_bytes bs each.1 i
+
 -- What was read and prepared is the image's, with its words.
 image_found : (file : List ℕ) (b : Banked) (r : Result Contents ImageError) → AllByRecursion (λ byte. byte < 256) file → image_of file ≡ r → Ok b.loadable ≡ prepared_image r → ((c : Contents) → Image file c → AreWordsFor (code_of b) c) → SpellUnits (code_of b) b.loadable.sealed → HasWords file b
 image_found file b (Err e) bytes is loads words spelled = absurd (cc)
 image_found file b (Ok c) bytes is loads words spelled =
-    let image : Image file c = image_takes file c bytes is in
+    let image : Image file c = image_takes file c (are_bytes file bytes) is in
     record { contents = c; image = image; words = words c image; spelled = spelled }
 
 pub is_readied : (file : List ℕ) (r : Readied) → AllByRecursion (λ byte. byte < 256) file → prepared_of r ≡ prepared file → ((c : Contents) → Image file c → HasItsWords r c) → AreSpelled r → IsReadied file r
@@ -86,6 +91,7 @@ same_refusal : (e f : Refusal) (p : Prep) → Err e ≡ p → Err f ≡ p → e 
 same_refusal e f p a b = let same : Err e ≡ Err f = a ∙ sym b in cc
 
 one_readied : (file : List ℕ) (r s : Readied) → IsReadied file r → IsReadied file s → r ≡ s
+unfolding banked
 one_readied file (Err e) (Err f) a b = ap (λ (x : Refusal). Err x) (same_refusal e f (prepared file) a.prepares b.prepares)
 one_readied file (Err e) (Ok b) a d = absurd (cc (a.prepares, d.prepares))
 one_readied file (Ok b) (Err e) a d = absurd (cc (a.prepares, d.prepares))

@@ -53,7 +53,7 @@ module _ {R : Type 0} (w : Workings R) where
             sym first ∙ same_past k n m (subst (λ (t : Turning R). t.value.ended ≢ More) (sym second) over_b) le ∙ second
       ]
 
-  pub one_end : (m : MoteValue R) (lines others : List TraceLine) (last other : MoteValue R) → EndsAt w m lines last → EndsAt w m others other → record { value = last; lines = lines } ≡ record { value = other; lines = others }
+  pub one_end : (m : MoteValue R) (lines others : List TraceLine) (last other : MoteValue R) → EndsAt w m lines last → EndsAt w m others other → ◌≡◌ {A = Turning R} (record { value = last; lines = lines }) (record { value = other; lines = others })
   one_end m lines others last other a b =
       ends_alike m (record { value = last; lines = lines }) (record { value = other; lines = others }) a.leads.count b.leads.count a.leads.are b.leads.are a.ended b.ended
 
