@@ -1,2 +1,7 @@
 pub mod Addresses
 pub mod Inside
+pub mod Rising
+pub mod Placing
+pub mod FlashLaws
+pub mod Beginning
+pub mod Rounds

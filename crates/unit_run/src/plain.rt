@@ -6,13 +6,14 @@ ghost use Rattle.mote_layout.specs.Limits.{turn_lines};
 ghost use Rattle.mote_layout.specs.Memory.{bank_words, domain_count, ram_end, ram_start, register_count};
 ghost use Rattle.unit_code.specs.Proper.{IsOfKind};
 ghost use Rattle.domain_model.specs.State.{at_counter, no_runner, with_processor};
-ghost use Rattle.domain_model.specs.Frames.{bound_at, reserved};
+ghost use Rattle.domain_model.specs.Frames.{bound_at};
 ghost use Rattle.domain_model.specs.Act.{act_branch, act_skip, act_slot, act_unit, group_effect, group_sp, next_unit, passes, plain_effect, taken};
 ghost use Rattle.domain_model.specs.Good.{GoodMachine};
 ghost use Rattle.domain_model.specs.Runners.{unit_lines};
 ghost use Rattle.domain_model.specs.Turn.{placed};
 
 use crate::bank::Bank;
+use crate::stack::push_zeros;
 use crate::tests_of_units::{is_taken, load_address, passes, store_address};
 use avr_isa::Instr;
 use domain_model::{FaultNote, Lines, Rule, Running, Served, UnitEnd};
@@ -397,18 +398,6 @@ fn move_sp(k: &mut Kernel, sp: u16, with_sreg: bool)
     if with_sreg {
         cpu.sreg = cpu.register(SREG_SOURCE);
     }
-}
-
-/// Pushes two bytes 0.
-fn push_zeros(k: &mut Kernel)
-    requires low { ram_start + 1 ≤ k.old.processor.sp }
-    requires high { k.old.processor.sp ≤ ram_end }
-    ensures { k.new ≡ with_processor k.old (reserved k.old.processor) }
-{
-    let cpu = k.cpu_mut();
-    cpu.set_ram(cpu.sp, 0);
-    cpu.set_ram(cpu.sp - 1, 0);
-    cpu.sp -= 2;
 }
 
 /// The unit is refused.

@@ -1,2 +1,11 @@
 pub mod FewLines
 pub mod Untold
+pub mod SecondWords
+pub mod Fetched
+pub mod Laid
+pub mod Steps
+pub mod Same
+pub mod Setting
+pub mod Moves
+pub mod PlainUnits
+pub mod Guarded
