@@ -10,6 +10,7 @@ pub mod Judged
 pub mod OneFile
 pub mod Turning
 pub mod Sound
+pub mod Keeping
 pub mod Untelling
 pub mod Readied
 pub mod WordRuns

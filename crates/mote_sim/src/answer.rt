@@ -1,21 +1,17 @@
 //! The top call.
-ghost use Rattle.std.specs.Prelude.{◌≡◌, ◌≤◌, ◌⊎◌, IfOk, IsTrue, length, map, Some, None, Bool, true, false, List, ℕ};
-ghost use Rattle.std.specs.List.{AllByRecursion};
+ghost use Rattle.std.specs.Prelude.{◌≡◌, ◌≤◌, ◌⊎◌, IsTrue, length, Some, None, Bool, true, false, List, ℕ};
 ghost use Rattle.mote_base.specs.Causes.{Rose};
 ghost use Rattle.mote_base.specs.Files.{Named};
 ghost use Rattle.mote_base.specs.Written.{Grows};
 ghost use Rattle.mote_layout.specs.Limits.{unit_limit, handler_limit};
 ghost use Rattle.command_line.specs.Command.{command_of, takes, IsWithinLimits};
-ghost use Rattle.domain_model.specs.Good.{ArePackets, AreTimes, IsGoodImage};
+ghost use Rattle.domain_model.specs.Good.{ArePackets, AreTimes};
 ghost use Rattle.domain_model.specs.Events.{event_times, loader_events, packet_times, packets_in};
-ghost use Rattle.domain_model.specs.Prepared.{prepared};
 ghost use Rattle.event_script.specs.Refusals.{events_of, refusal_of};
-ghost use Rattle.mod_loader.specs.Banks.{prepared_of};
 ghost use Rattle.mote_sim.specs.Asking.{AsksBy, AsksFront, Came};
 ghost use Rattle.mote_sim.specs.Clauses.{WritesRun, WritesTool, RefusesFiles, HasStatus, WritesFront};
 ghost use Rattle.mote_sim.specs.Ending.{Ends, IsAnswer, Answered, CutOff};
 ghost use Rattle.mote_sim.specs.Outcome.{Answers, AnswersOver, Runs, outcome, outcome_by, outcome_of_script, usage_line};
-ghost use Rattle.mote_sim.specs.Playing.{StandsAt};
 ghost use Rattle.mote_sim.specs.Reading.{Admits, AdmitsEach, bytes_of};
 ghost use Rattle.mote_sim.specs.Tools.{TellsOf};
 ghost use Rattle.mote_sim.specs.Trace.{run_input};
@@ -27,6 +23,7 @@ use crate::listing::list;
 use crate::one_line::{put_answer, put_script, put_size};
 use crate::operands::Operands;
 use crate::play::play;
+use crate::preparing::prepare;
 use crate::reading::{ReadStop, read_files};
 use crate::request::{Request, request_of};
 use crate::rewriting::write_rewritten;
@@ -34,48 +31,15 @@ use crate::sealing::{seal, upgrade};
 use command_line::{Kind, Tool};
 use domain_model::Lines;
 use event_script::{Script, ScriptError, parse_script};
-use mod_loader::Ready;
-use mote_base::{NoMemory, Shelf, Sink, Status, Word};
-use mote_core::{Limits, Mote};
+use mote_base::{Shelf, Sink, Status, Word};
+use mote_core::Limits;
 use std::alloc::Global;
-use unit_run::PlainRunner;
-
-// The images of these files, prepared for their loads.
-fn prepare_images(alloc: Global, files: &[Vec<u8>]) -> Result<Vec<Ready>, NoMemory>
-    ensures prepared { IfOk result (λ images. map prepared_of images.items ≡ map prepared (bytes_of files.now)) }
-    ensures good { IfOk result (λ images. AllByRecursion IsGoodImage (map prepared_of images.items)) }
-{
-    let mut images = Vec::new(alloc);
-    for file in files {
-        images.push(Ready::new(alloc, file)?)?;
-    }
-    Ok(images)
-}
-
-// A mote at the start of the run of a script over its images within these limits.
-fn prepare(
-    alloc: Global,
-    limits: Limits,
-    script: Script,
-    images: &[Vec<u8>],
-) -> Result<Mote<PlainRunner>, NoMemory>
-    requires units { limits.units ≤ unit_limit }
-    requires handler { (1 ≤ limits.handler) × (limits.handler ≤ handler_limit) }
-    requires packets { ArePackets (packets_in script.events.items) }
-    requires packet_times { AreTimes (packet_times (packets_in script.events.items)) }
-    requires times { AreTimes (event_times (loader_events script.events.items)) }
-    ensures { IfOk result (λ mote. StandsAt mote
-        (run_input limits.units limits.handler (bytes_of images.now) script.events.items)) }
-{
-    let images = prepare_images(alloc, images)?;
-    let runner = PlainRunner::new(alloc)?;
-    Mote::new(alloc, images, script, limits, runner)
-}
 
 // Runs the events of a script over its images. All memory is taken before the first line is put.
 fn run_script<K: Sink>(
     alloc: Global,
     limits: Limits,
+    words: bool,
     script: Script,
     images: &[Vec<u8>],
     out: &mut K,
@@ -86,9 +50,9 @@ fn run_script<K: Sink>(
     requires packet_times { AreTimes (packet_times (packets_in script.events.items)) }
     requires times { AreTimes (event_times (loader_events script.events.items)) }
     ensures { Ends K.written K.faults (LeadsBySome K.leads) out.old out.new 0 0
-        (Answers (Runs (run_input limits.units limits.handler (bytes_of images.now) script.events.items))) result }
+        (Answers (Runs (run_input limits.units limits.handler (bytes_of images.now) script.events.items) words)) result }
 {
-    let mut mote = match prepare(alloc, limits, script, images) {
+    let mut mote = match prepare(alloc, limits, words, script, images) {
         Err(_) => return Status::NoMemory,
         Ok(mote) => mote,
     };
@@ -106,6 +70,7 @@ fn run_script<K: Sink>(
 fn run<K: Sink>(
     alloc: Global,
     limits: Limits,
+    words: bool,
     script: &[u8],
     images: &[Vec<u8>],
     out: &mut K,
@@ -113,11 +78,11 @@ fn run<K: Sink>(
     requires units { limits.units ≤ unit_limit }
     requires handler { (1 ≤ limits.handler) × (limits.handler ≤ handler_limit) }
     ensures { Ends K.written K.faults (LeadsBySome K.leads) out.old out.new 0 0
-        (Answers (outcome_of_script limits.units limits.handler (refusal_of (length images.now) script.now)
+        (Answers (outcome_of_script limits.units limits.handler words (refusal_of (length images.now) script.now)
         (events_of script.now) (bytes_of images.now))) result }
 {
     match parse_script(alloc, script, images.len()) {
-        Ok(script) => run_script(alloc, limits, script, images, out),
+        Ok(script) => run_script(alloc, limits, words, script, images, out),
         Err(ScriptError::NoMemory) => Status::NoMemory,
         Err(refusal) => put_script(out, &refusal),
     }
@@ -147,8 +112,19 @@ fn perform<K: Sink>(alloc: Global, kind: Kind, files: &[Vec<u8>], out: &mut K) -
         (Answers (outcome_by kind (bytes_of files.now))) result }
 {
     match kind {
-        Kind::Run { units, handler, .. } => match files {
-            [script, images @ ..] => run(alloc, Limits { units, handler }, script, images, out),
+        Kind::Run {
+            units,
+            handler,
+            words,
+        } => match files {
+            [script, images @ ..] => run(
+                alloc,
+                Limits { units, handler },
+                words,
+                script,
+                images,
+                out,
+            ),
             [] => unreachable!(),
         },
         Kind::Tool(tool) => match files {
@@ -202,7 +178,7 @@ fn answer<F: Shelf, K: Sink>(alloc: Global, words: &[Word], shelf: &mut F, out: 
 /// Does all that the program does: reads the words, reads the files that they name, and writes the answer.
 ///
 /// The words are those behind the program's name. `run SCRIPT IMAGE..` runs a script over 1 to 64 images, which
-/// it loads and unloads, and writes the trace; `--units N` limits the units of the run, and `--handler H` those of one
+/// it loads and unloads, and writes the trace, with a line for each instruction where `--words` asks for them; `--units N` limits the units of the run, and `--handler H` those of one
 /// handler, beyond which the watchdog stops it. `list IMAGE` writes the units of an image, a line for each.
 /// `upgrade IMAGE` writes the file of an image of the first version in the second, and `seal IMAGE` that of an image
 /// which is neither rewritten nor sealed, sealed. `rewrite IMAGE` writes an original image with each store, stack change
@@ -218,13 +194,13 @@ pub fn mote_main<F: Shelf, K: Sink>(
     // The shelf may be asked for the files of the command.
     requires { Admits (F.admits shelf.old) (command_of words.now) }
 
-    // Done: every file was read whole. Of `run` the bytes added are the trace of a lawful run of them within its limits,
-    // and of a tool they are what its definition makes of its file.
+    // Done: every file was read whole. Of `run` the bytes added are the trace of the word run of them within its limits,
+    // which is a lawful run of the machine, and of a tool they are what its definition makes of its file.
     ensures headline { result ≡ Status.Done →
         (units handler : ℕ) (told : Bool) (names : List (List ℕ)) (fs : List Named) (before : List ℕ) →
         command_of words.now ≡ Some (record { kind = Kind.Run units handler told; files = names }) →
         F.files shelf.old ≡ Some fs → K.written out.old ≡ Some before →
-        WritesRun units handler names fs before (K.written out.new) }
+        WritesRun units handler told names fs before (K.written out.new) }
     ensures tools { result ≡ Status.Done →
         (tool : Tool) (names : List (List ℕ)) (fs : List Named) (before : List ℕ) →
         command_of words.now ≡ Some (record { kind = Kind.Tool tool; files = names }) →

@@ -24,6 +24,7 @@ mod listing;
 mod one_line;
 mod operands;
 mod play;
+mod preparing;
 mod reading;
 mod request;
 mod rewriting;
