@@ -57,8 +57,8 @@ pub record IsSound {R : Type 0} (w : Workings R) (holds : R → Type 0) (m : Mot
   pub spelled : AllByRecursion AreSpelled m.images
 
 some_is : {X : Type 0} (o : Option X) (x : X) → o ≡ Some x → IsSome o
-some_is None x is = cc
-some_is (Some y) x is = tt
+some_is None x is = absurd (cc)
+some_is (Some y) x is = refl
 
 module _ {R : Type 0} (w : Workings R) (holds : R → Type 0) (keeps : AreKept w holds) where
   -- What is held stays so, whatever the turn does to the runner.
