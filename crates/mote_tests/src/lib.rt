@@ -6,7 +6,7 @@
 //! - `words`: which words of the command line are a command, and its options.
 //! - `images`: images that the top call writes by `upgrade` and `seal`.
 //! - `turns`: turns of a mote of `mote_core` under small limits, by two runners.
-//! - `units`: runs of modules with units and kernel calls of each kind, by the top call and by both runners.
+//! - `units`: runs of modules with units and kernel calls of each kind, by the top call and by each runner.
 //! - `parcels`: runs with payloads, packets and dumps, by the top call.
 //! - `constants`: runs of images with constants; `sealed`: runs of sealed ones; `calls`: runs with calls of functions;
 //!   `timers`: runs with timers.

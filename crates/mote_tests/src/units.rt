@@ -1,4 +1,4 @@
-//! Runs of modules with units and kernel calls of each kind, by the top call and by motes with two runners.
+//! Runs of modules with units and kernel calls of each kind, by the top call and by motes with each runner.
 
 use crate::ScribbleRunner;
 use crate::calls::ITSELF;

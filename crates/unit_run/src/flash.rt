@@ -20,8 +20,8 @@ use std::alloc::Global;
 use std::marker::Model;
 use unit_code::Unit;
 
-/// Runs the words of the modules' banks on the processor, one instruction after the other. The units are what the machine sees of them, and
-/// are not looked at to run.
+/// Runs the words of the modules' banks on the processor, one instruction after the other. It keeps the units as well, for
+/// the machine sees them and not the words, and never looks at one to run it.
 #[derive(Drop)]
 pub struct FlashRunner {
     pub(crate) units: PlainRunner,

@@ -86,11 +86,8 @@ pub fn guard_push(k: &Kernel, back: u16) -> Arrived
 pub fn guard_pop(run: &Running, k: &Kernel, back: u16) -> Arrived
     ensures way { way_of result
         ≡ (guarded (nat_lt k.now.processor.sp run.now.base) rule.StackUnder k.now.processor.sp k.now back).way }
-    ensures kernel {
-        (guarded (nat_lt k.now.processor.sp run.now.base) rule.StackUnder k.now.processor.sp k.now back).kernel ≡ k.now
-    }
-    ensures lines {
-        (guarded (nat_lt k.now.processor.sp run.now.base) rule.StackUnder k.now.processor.sp k.now back).lines ≡ [] }
+    ensures kernel { (guarded (nat_lt k.now.processor.sp run.now.base) rule.StackUnder k.now.processor.sp k.now back).kernel ≡ k.now }
+    ensures lines { (guarded (nat_lt k.now.processor.sp run.now.base) rule.StackUnder k.now.processor.sp k.now back).lines ≡ [] }
 {
     let sp = k.cpu().sp;
     if sp >= run.base {

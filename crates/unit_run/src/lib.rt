@@ -4,9 +4,10 @@
 //! lends. It is a [`Runner`] of `kernel_call`: what it does is a unit of the machine (`act` of `domain_model`) itself, also in
 //! the bytes that other runners may leave open, and it writes no line of its own.
 //!
-//! [`FlashRunner`] keeps the words of each domain's bank, and runs them on the processor one instruction after the other (`word_run` says
-//! what that comes to): where they enter the page it does the entry's row by the kernel's calls. It finds where a unit ends by the starts of the
-//! templates, and never looks at a unit. Where it is asked to, it tells each instruction that runs.
+//! [`FlashRunner`] keeps the words of each domain's bank, and runs them on the processor one instruction after the other. What
+//! that comes to `word_run` defines, and has as its law that it is a unit of the machine but for the free bytes. Where the words
+//! enter the page, the entry's row is done by calls of the kernel (`entries`, `guards`). Where a unit ends is told by the starts
+//! of the templates. Where it is asked to, it writes a line for each instruction that runs.
 #![tactic(auto)]
 
 mod arrived;

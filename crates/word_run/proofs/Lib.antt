@@ -9,3 +9,8 @@ pub mod Setting
 pub mod Moves
 pub mod PlainUnits
 pub mod Guarded
+pub mod Stores
+pub mod PushPop
+pub mod Loads
+pub mod Jumps
+pub mod Skips

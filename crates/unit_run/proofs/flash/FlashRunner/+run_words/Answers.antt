@@ -1,4 +1,4 @@
-use Rattle.std.proofs.Common.{◌∙◌, ◌++◌, ◌-◌, ap, sym, append_assoc, None, Some}
+use Rattle.std.proofs.Common.{◌∙◌, ◌++◌, ◌-◌, ap, sym, append_assoc}
 use Rattle.std.proofs.lemmas.List.{append-nil}
 use Rattle.word_run.specs.WordRun.{WordsActed, begun_lines, one_step, run_from}
 use Rattle.unit_run.specs.Ways.{way_of}
