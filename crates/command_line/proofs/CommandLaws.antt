@@ -1,6 +1,7 @@
 -- The command that is read from the words is the one that the rules give, and there is no other.
 use Rattle.std.specs.Prelude.{IsTrue, unwrap_or, codes, nat_le, nat_lt, ◌&&◌, ◌==◌}
 use Rattle.std.specs.List.{AllByRecursion}
+use Rattle.std.specs.Option.{option_map}
 use Rattle.std.specs.Str.{bytes_eq}
 use Rattle.std.proofs.Common.{◌≡◌, ◌∙◌, ℕ, ◌+◌, ◌≤◌, refl, sym, ap, subst, arith, Bool, true, false, if◌then◌else◌, List, [], ◌∷◌, ◌++◌, length, Option, Some, None, append_assoc, append-nil, length-append}
 use Rattle.std.proofs.lemmas.Bool.Decides.{nat_tests}
@@ -15,7 +16,7 @@ use Rattle.command_line.specs.declared.command.Setting.{Setting}
 use Rattle.command_line.specs.declared.command.Setting.TheVariants.{Units, Handler}
 use Rattle.command_line.specs.declared.command.Place.{Place}
 use Rattle.command_line.specs.declared.command.Place.TheVariants.{Options, Value, Operands}
-use Rattle.command_line.specs.Command.{Command, Item, Operand, Flag, Joined, Apart, IsItem, IsCommand, Given, CommandsAreByRules, CommandsAreWithinLimits, IsWithinLimits, greatest, without_options, tool_of, takes, kind_of, is_option, end_of_options, name_of, front_of, flag, value_of, written, operands, value_for, values, none_or_one, flags, zero_or_one, ended, nothing_given, units_given, handler_given, flag_given, with_value, with_operand, with_place, behind_front, with_joined, with_option, with_any, with_word, given_by, with_files, command_at, command_with, command_of}
+use Rattle.command_line.specs.Command.{Command, Item, Operand, Flag, Joined, Apart, IsItem, IsCommand, Given, CommandsAreByRules, CommandsAreWithinLimits, IsWithinLimits, greatest, without_options, tool_of, takes, kind_of, is_option, end_of_options, name_of, front_of, flag, value_of, written, operands, value_for, values, none_or_one, flags, zero_or_one, ended, nothing_given, units_given, handler_given, flag_given, with_value, with_operand, with_place, behind_front, with_joined, with_option, with_any, with_word, given_by, with_files, command_at, command_with, command_of, files_of, all_operands, generation, greatest_seed}
 
 -- Texts that are the same, and texts that are not.
 same_text : (xs ys : List ℕ) → bytes_eq xs ys ≡ true → xs ≡ ys
@@ -51,7 +52,7 @@ record Sorted (words : List (List ℕ)) (g t : Given) : Type 0 where
   units : none_or_one t.units ≡ none_or_one g.units ++ values Units items
   handler : none_or_one t.handler ≡ none_or_one g.handler ++ values Handler items
   flagged : zero_or_one t.words ≡ zero_or_one g.words + flags items
-  files : t.files ≡ g.files ++ (operands items ++ unwrap_or behind [])
+  files : t.operands ≡ g.operands ++ (operands items ++ unwrap_or behind [])
 
 -- The text is the value of that option, and then come these words.
 record Took (setting : Setting) (text : List ℕ) (words : List (List ℕ)) (g t : Given) : Type 0 where
@@ -64,7 +65,7 @@ record Took (setting : Setting) (text : List ℕ) (words : List (List ℕ)) (g t
   units : none_or_one t.units ≡ none_or_one g.units ++ (value_for Units setting value ++ values Units items)
   handler : none_or_one t.handler ≡ none_or_one g.handler ++ (value_for Handler setting value ++ values Handler items)
   flagged : zero_or_one t.words ≡ zero_or_one g.words + flags items
-  files : t.files ≡ g.files ++ (operands items ++ unwrap_or behind [])
+  files : t.operands ≡ g.operands ++ (operands items ++ unwrap_or behind [])
 
 record Valued (setting : Setting) (words : List (List ℕ)) (g t : Given) : Type 0 where
   text : List ℕ
@@ -76,7 +77,7 @@ record Behind (words : List (List ℕ)) (g t : Given) : Type 0 where
   units : t.units ≡ g.units
   handler : t.handler ≡ g.handler
   flagged : t.words ≡ g.words
-  files : t.files ≡ g.files ++ words
+  files : t.operands ≡ g.operands ++ words
 
 abbrev From : Place → List (List ℕ) → Given → Given → Type 0
 From Options words g t = Sorted words g t
@@ -100,17 +101,17 @@ sorted_start g = record {
   units = sym (append-nil (none_or_one g.units));
   handler = sym (append-nil (none_or_one g.handler));
   flagged = omega arith;
-  files = sym (append-nil g.files);
+  files = sym (append-nil g.operands);
 }
 
 ends : (p : Place) (g : Given) → IsOver p → From p [] g g
 ends Options g over = sorted_start g
 ends (Value setting) g over = absurd over
-ends Operands g over = record { units = refl; handler = refl; flagged = refl; files = sym (append-nil g.files) }
+ends Operands g over = record { units = refl; handler = refl; flagged = refl; files = sym (append-nil g.operands) }
 
 module _ (word : List ℕ) (words : List (List ℕ)) (t : Given) (ih : Tells words t) where
   abbrev more : Given → Given
-  more g = record { place = g.place; units = g.units; handler = g.handler; words = g.words; files = g.files ++ word ∷ [] }
+  more g = record { place = g.place; units = g.units; handler = g.handler; words = g.words; operands = g.operands ++ word ∷ [] }
 
   operand : (b : Bool) (g : Given) → given_by words (if b then Some (more g) else None) ≡ Some t → From g.place words (more g) t
   operand true g e = ih (more g) e
@@ -118,7 +119,7 @@ module _ (word : List ℕ) (words : List (List ℕ)) (t : Given) (ih : Tells wor
 
   took_units : (o : Option ℕ) (text : List ℕ) (value : ℕ) (g : Given) → g.units ≡ o → value_of Units text ≡ Some value → given_by words (units_given o value g) ≡ Some t → Took Units text words g t
   took_units None text value g is gives e =
-      let s = ih (record { place = Options; units = Some value; handler = g.handler; words = g.words; files = g.files }) e in
+      let s = ih (record { place = Options; units = Some value; handler = g.handler; words = g.words; operands = g.operands }) e in
       record {
         value = value;
         gives = gives;
@@ -135,7 +136,7 @@ module _ (word : List ℕ) (words : List (List ℕ)) (t : Given) (ih : Tells wor
 
   took_handler : (o : Option ℕ) (text : List ℕ) (value : ℕ) (g : Given) → g.handler ≡ o → value_of Handler text ≡ Some value → given_by words (handler_given o value g) ≡ Some t → Took Handler text words g t
   took_handler None text value g is gives e =
-      let s = ih (record { place = Options; units = g.units; handler = Some value; words = g.words; files = g.files }) e in
+      let s = ih (record { place = Options; units = g.units; handler = Some value; words = g.words; operands = g.operands }) e in
       record {
         value = value;
         gives = gives;
@@ -165,7 +166,7 @@ module _ (word : List ℕ) (words : List (List ℕ)) (t : Given) (ih : Tells wor
     units = s.units;
     handler = s.handler;
     flagged = omega (arith, s.flagged);
-    files = s.files ∙ append_assoc g.files (word ∷ []) (operands s.items ++ unwrap_or s.behind []);
+    files = s.files ∙ append_assoc g.operands (word ∷ []) (operands s.items ++ unwrap_or s.behind []);
   }
 
   apart : (setting : Setting) (g : Given) → word ≡ name_of setting → Valued setting words (with_place (Value setting) g) t → Sorted (word ∷ words) g t
@@ -203,7 +204,7 @@ module _ (word : List ℕ) (words : List (List ℕ)) (t : Given) (ih : Tells wor
 
   by_flag : (b : Bool) (g : Given) → word ≡ flag → g.words ≡ b → given_by words (flag_given b g) ≡ Some t → Sorted (word ∷ words) g t
   by_flag false g is none e =
-      let s = ih (record { place = Options; units = g.units; handler = g.handler; words = true; files = g.files }) e in
+      let s = ih (record { place = Options; units = g.units; handler = g.handler; words = true; operands = g.operands }) e in
       record {
         items = Flag ∷ s.items;
         behind = s.behind;
@@ -240,15 +241,15 @@ module _ (word : List ℕ) (words : List (List ℕ)) (t : Given) (ih : Tells wor
       }
   by_sort false true g at is plain e = by_name (bytes_eq word (name_of Units)) (bytes_eq word (name_of Handler)) g refl refl e
   by_sort false false g at is plain e =
-      let s : Sorted words (more g) t = subst (λ (p : Place). From p words (more g) t) at (operand (nat_le (length g.files) images_limit) g e) in
+      let s : Sorted words (more g) t = subst (λ (p : Place). From p words (more g) t) at (operand (nat_le (length g.operands) images_limit) g e) in
       with_item (Operand word) g s refl plain
 
   by_place : (p : Place) (g : Given) → g.place ≡ p → given_by words (with_word p word g) ≡ Some t → From p (word ∷ words) g t
   by_place Options g at e = by_sort (bytes_eq word end_of_options) (is_option word) g at refl refl e
   by_place (Value setting) g at e = record { text = word; rest = words; are = refl; took = took setting (value_of setting word) word g refl e }
   by_place Operands g at e =
-      let s : Behind words (more g) t = subst (λ (p : Place). From p words (more g) t) at (operand (nat_le (length g.files) images_limit) g e) in
-      record { units = s.units; handler = s.handler; flagged = s.flagged; files = s.files ∙ append_assoc g.files (word ∷ []) words }
+      let s : Behind words (more g) t = subst (λ (p : Place). From p words (more g) t) at (operand (nat_le (length g.operands) images_limit) g e) in
+      record { units = s.units; handler = s.handler; flagged = s.flagged; files = s.files ∙ append_assoc g.operands (word ∷ []) words }
 
 tells : (t : Given) → IsOver t.place → (words : List (List ℕ)) → Tells words t
 tells t over [] g e =
@@ -257,30 +258,30 @@ tells t over [] g e =
 tells t over (word ∷ words) g e = by_place word words t (tells t over words) g.place g refl e
 
 -- Words that are read to their end are the command that the rules give.
-record Taken (kind : Option Kind) (files : List (List ℕ)) (command : Command) : Type 0 where
+record Taken (kind : Option Kind) (given : List (List ℕ)) (command : Command) : Type 0 where
   named : kind ≡ Some command.kind
-  files_are : command.files ≡ files
+  files_are : command.files ≡ files_of command.kind given
   number : IsTrue (takes command.kind (length command.files))
 
-taken_where : (b : Bool) (kind : Kind) (files : List (List ℕ)) (command : Command) → takes kind (length files) ≡ b → (if b then Some (record { kind = kind; files = files }) else None) ≡ Some command → Taken (Some kind) files command
-taken_where true kind files command test e =
-    let made : Command = record { kind = kind; files = files } in
+taken_where : (b : Bool) (kind : Kind) (given : List (List ℕ)) (command : Command) → takes kind (length (files_of kind given)) ≡ b → (if b then Some (record { kind = kind; files = files_of kind given }) else None) ≡ Some command → Taken (Some kind) given command
+taken_where true kind given command test e =
+    let made : Command = record { kind = kind; files = files_of kind given } in
     let same : made ≡ command = cc in
     record {
       named = ap (λ (c : Command). Some c.kind) same;
-      files_are = ap (λ (c : Command). c.files) (sym same);
+      files_are = subst (λ (c : Command). c.files ≡ files_of c.kind given) same refl;
       number = subst (λ (c : Command). IsTrue (takes c.kind (length c.files))) same test;
     }
-taken_where false kind files command test e = absurd (cc)
+taken_where false kind given command test e = absurd (cc)
 
-taken : (kind : Option Kind) (files : List (List ℕ)) (command : Command) → with_files kind files ≡ Some command → Taken kind files command
-taken None files command e = absurd (cc)
-taken (Some kind) files command e = taken_where (takes kind (length files)) kind files command refl e
+taken : (kind : Option Kind) (given : List (List ℕ)) (command : Command) → with_files kind given ≡ Some command → Taken kind given command
+taken None given command e = absurd (cc)
+taken (Some kind) given command e = taken_where (takes kind (length (files_of kind given))) kind given command refl e
 
-over_where : (p : Place) (verb : List ℕ) (g : Given) (command : Command) → command_at p verb g ≡ Some command → IsOver p × Taken (kind_of verb g.units g.handler g.words) g.files command
-over_where Options verb g command e = (tt, taken (kind_of verb g.units g.handler g.words) g.files command e)
+over_where : (p : Place) (verb : List ℕ) (g : Given) (command : Command) → command_at p verb g ≡ Some command → IsOver p × Taken (kind_of verb g.units g.handler g.words g.operands) g.operands command
+over_where Options verb g command e = (tt, taken (kind_of verb g.units g.handler g.words g.operands) g.operands command e)
 over_where (Value setting) verb g command e = absurd (cc)
-over_where Operands verb g command e = (tt, taken (kind_of verb g.units g.handler g.words) g.files command e)
+over_where Operands verb g command e = (tt, taken (kind_of verb g.units g.handler g.words g.operands) g.operands command e)
 
 ruled_where : (o : Option Given) (verb : List ℕ) (words : List (List ℕ)) (command : Command) → given_by words (Some nothing_given) ≡ o → command_with verb o ≡ Some command → IsCommand (verb ∷ words) command
 ruled_where None verb words command read e = absurd (cc)
@@ -299,8 +300,8 @@ ruled_where (Some t) verb words command read e =
       handler_once = s.handler;
       flagged = t.words;
       flagged_once = omega (arith, s.flagged);
-      named = over.1.named;
-      files_are = over.1.files_are ∙ s.files;
+      named = ap (λ (words : List (List ℕ)). kind_of verb t.units t.handler t.words words) (sym s.files) ∙ over.1.named;
+      files_are = over.1.files_are ∙ ap (λ (words : List (List ℕ)). files_of command.kind words) s.files;
       number = over.1.number;
     }
 
@@ -311,7 +312,7 @@ ruled (verb ∷ words) command e = ruled_where (given_by words (Some nothing_giv
 -- From the rules to the words.
 
 abbrev at : Place → Option ℕ → Option ℕ → Bool → List (List ℕ) → Given
-at place units handler flagged files = record { place = place; units = units; handler = handler; words = flagged; files = files }
+at place units handler flagged files = record { place = place; units = units; handler = handler; words = flagged; operands = files }
 
 -- A word that does not look like an option ends none.
 not_true : (b : Bool) → (b ≡ true → ⊥) → b ≡ false
@@ -372,9 +373,6 @@ abbrev place_behind : Option (List (List ℕ)) → Place
 place_behind None = Options
 place_behind (Some words) = Operands
 
-abbrev files_of : List Item → Option (List (List ℕ)) → List (List ℕ)
-files_of items behind = operands items ++ unwrap_or behind []
-
 -- What stands behind two of `-` is an option.
 as_option : (rest : List ℕ) (g : Given) → bytes_eq (45 ∷ 45 ∷ rest) end_of_options ≡ false → with_any (45 ∷ 45 ∷ rest) g ≡ with_option (45 ∷ 45 ∷ rest) g
 as_option rest g other = rw (other, looks_so rest) refl
@@ -409,7 +407,7 @@ value_is Handler value place units handler now_units now_handler flagged files i
       subst (λ (o : Option ℕ). none_or_one now_handler ≡ none_or_one o ++ (value ∷ values Handler items)) none is_handler,
     )
 
-makes : (items : List Item) (behind : Option (List (List ℕ))) (units handler now_units now_handler : Option ℕ) (flagged now_flagged : Bool) (files : List (List ℕ)) → AllByRecursion IsItem items → none_or_one now_units ≡ none_or_one units ++ values Units items → none_or_one now_handler ≡ none_or_one handler ++ values Handler items → zero_or_one now_flagged ≡ zero_or_one flagged + flags items → length files + length (files_of items behind) ≤ images_limit + 1 → given_by (written items ++ ended behind) (Some (at Options units handler flagged files)) ≡ Some (at (place_behind behind) now_units now_handler now_flagged (files ++ files_of items behind))
+makes : (items : List Item) (behind : Option (List (List ℕ))) (units handler now_units now_handler : Option ℕ) (flagged now_flagged : Bool) (files : List (List ℕ)) → AllByRecursion IsItem items → none_or_one now_units ≡ none_or_one units ++ values Units items → none_or_one now_handler ≡ none_or_one handler ++ values Handler items → zero_or_one now_flagged ≡ zero_or_one flagged + flags items → length files + length (all_operands items behind) ≤ images_limit + 1 → given_by (written items ++ ended behind) (Some (at Options units handler flagged files)) ≡ Some (at (place_behind behind) now_units now_handler now_flagged (files ++ all_operands items behind))
 makes [] None units handler now_units now_handler flagged now_flagged files each is_units is_handler is_flagged few =
     let same_units = same_option now_units units (is_units ∙ append-nil (none_or_one units)) in
     let same_handler = same_option now_handler handler (is_handler ∙ append-nil (none_or_one handler)) in
@@ -431,9 +429,9 @@ makes (Operand word ∷ items) behind units handler now_units now_handler flagge
     let g = at Options units handler flagged files in
     ap (λ (b : Bool). given_by words (if b then Some (with_place Operands g) else (if is_option word then with_option word g else with_operand word g))) (no_end word each.0)
     ∙ ap (λ (b : Bool). given_by words (if b then with_option word g else with_operand word g)) each.0
-    ∙ ap (λ (b : Bool). given_by words (if b then Some (at Options units handler flagged (files ++ word ∷ [])) else None)) (room files word (files_of items behind) few)
-    ∙ makes items behind units handler now_units now_handler flagged now_flagged (files ++ word ∷ []) each.1 is_units is_handler (omega (arith, is_flagged)) (more_room files word (files_of items behind) few)
-    ∙ ap (λ (fs : List (List ℕ)). Some (at (place_behind behind) now_units now_handler now_flagged fs)) (append_assoc files (word ∷ []) (files_of items behind))
+    ∙ ap (λ (b : Bool). given_by words (if b then Some (at Options units handler flagged (files ++ word ∷ [])) else None)) (room files word (all_operands items behind) few)
+    ∙ makes items behind units handler now_units now_handler flagged now_flagged (files ++ word ∷ []) each.1 is_units is_handler (omega (arith, is_flagged)) (more_room files word (all_operands items behind) few)
+    ∙ ap (λ (fs : List (List ℕ)). Some (at (place_behind behind) now_units now_handler now_flagged fs)) (append_assoc files (word ∷ []) (all_operands items behind))
 makes (Flag ∷ items) behind units handler now_units now_handler flagged now_flagged files each is_units is_handler is_flagged few =
     let words = written items ++ ended behind in
     let none = no_flag_stood now_flagged flagged (flags items) is_flagged in
@@ -453,21 +451,55 @@ makes (Apart setting text value ∷ items) behind units handler now_units now_ha
     ∙ ap (λ (o : Option Given). given_by words o) v.2
     ∙ makes items behind v.0 v.1 now_units now_handler flagged now_flagged files each.1 v.3 v.4 (omega (arith, is_flagged)) few
 
--- No command takes more files than a run.
+-- No command takes more files than a run, and none has more operands.
 few_files : (kind : Kind) (n : ℕ) → IsTrue (takes kind n) → n ≤ images_limit + 1
 few_files (kinds.Run units handler words) n is = grind (arith, nat_tests)
 few_files (kinds.Tool tool) n is = grind (arith, nat_tests)
+few_files (kinds.Generation seed) n is = grind (arith, nat_tests)
 
-command_is : (behind : Option (List (List ℕ))) (verb : List ℕ) (units handler : Option ℕ) (flagged : Bool) (files : List (List ℕ)) (command : Command) → kind_of verb units handler flagged ≡ Some command.kind → command.files ≡ files → IsTrue (takes command.kind (length command.files)) → command_at (place_behind behind) verb (at (place_behind behind) units handler flagged files) ≡ Some command
-command_is None verb units handler flagged files command named files_are number = ap (λ k. with_files k files) named ∙ ap (λ fs. with_files (Some command.kind) fs) (sym files_are) ∙ ap (λ b. if b then Some (record { kind = command.kind; files = command.files }) else None) number
-command_is (Some words) verb units handler flagged files command named files_are number = ap (λ k. with_files k files) named ∙ ap (λ fs. with_files (Some command.kind) fs) (sym files_are) ∙ ap (λ b. if b then Some (record { kind = command.kind; files = command.files }) else None) number
+one_seed : (units handler : Option ℕ) (words : Bool) (given : List (List ℕ)) (kind : Kind) → generation units handler words given ≡ Some kind → length given ≡ 1
+one_seed None None false [] kind e = absurd (cc)
+one_seed None None false (seed ∷ []) kind e = refl
+one_seed None None false (seed ∷ other ∷ given) kind e = absurd (cc)
+one_seed None None true given kind e = absurd (cc)
+one_seed None (Some h) words given kind e = absurd (cc)
+one_seed (Some u) handler words given kind e = absurd (cc)
+
+no_tool : (tool : Option Tool) (units handler : Option ℕ) (words : Bool) (seed : ℕ) → without_options tool units handler words ≡ Some (kinds.Generation seed) → ⊥
+no_tool (Some tool) None None false seed e = cc
+no_tool None units handler words seed e = cc
+no_tool (Some tool) None None true seed e = cc
+no_tool (Some tool) None (Some h) words seed e = cc
+no_tool (Some tool) (Some u) handler words seed e = cc
+
+one_operand : (a b : Bool) (verb : List ℕ) (units handler : Option ℕ) (words : Bool) (given : List (List ℕ)) (seed : ℕ) → (if a then Some (kinds.Run (unwrap_or units default_units) (unwrap_or handler default_handler_units) words) else (if b then generation units handler words given else without_options (tool_of verb) units handler words)) ≡ Some (kinds.Generation seed) → length given ≡ 1
+one_operand true b verb units handler words given seed e = absurd (cc)
+one_operand false true verb units handler words given seed e = one_seed units handler words given (kinds.Generation seed) e
+one_operand false false verb units handler words given seed e = absurd (no_tool (tool_of verb) units handler words seed e)
+
+few_operands : (kind : Kind) (verb : List ℕ) (units handler : Option ℕ) (words : Bool) (given : List (List ℕ)) → kind_of verb units handler words given ≡ Some kind → IsTrue (takes kind (length (files_of kind given))) → length given ≤ images_limit + 1
+few_operands (kinds.Run most bound told) verb units handler words given named is = few_files (kinds.Run most bound told) (length given) is
+few_operands (kinds.Tool tool) verb units handler words given named is = few_files (kinds.Tool tool) (length given) is
+few_operands (kinds.Generation seed) verb units handler words given named is =
+    omega (arith, one_operand (bytes_eq verb (codes "run")) (bytes_eq verb (codes "gen")) verb units handler words given seed named)
+
+command_with_files : (given : List (List ℕ)) (command : Command) → command.files ≡ files_of command.kind given → IsTrue (takes command.kind (length command.files)) → with_files (Some command.kind) given ≡ Some command
+command_with_files given command files_are number =
+    ap (λ fs. if takes command.kind (length fs) then Some (record { kind = command.kind; files = fs }) else None) (sym files_are)
+    ∙ ap (λ b. if b then Some (record { kind = command.kind; files = command.files }) else None) number
+
+command_is : (behind : Option (List (List ℕ))) (verb : List ℕ) (units handler : Option ℕ) (flagged : Bool) (given : List (List ℕ)) (command : Command) → kind_of verb units handler flagged given ≡ Some command.kind → command.files ≡ files_of command.kind given → IsTrue (takes command.kind (length command.files)) → command_at (place_behind behind) verb (at (place_behind behind) units handler flagged given) ≡ Some command
+command_is None verb units handler flagged given command named files_are number = ap (λ k. with_files k given) named ∙ command_with_files given command files_are number
+command_is (Some words) verb units handler flagged given command named files_are number = ap (λ k. with_files k given) named ∙ command_with_files given command files_are number
 
 taken_from : (words : List (List ℕ)) (command : Command) → IsCommand words command → command_of words ≡ Some command
 taken_from words command r =
-    let few : length (files_of r.items r.behind) ≤ images_limit + 1 = subst (λ (fs : List (List ℕ)). length fs ≤ images_limit + 1) r.files_are (few_files command.kind (length command.files) r.number) in
+    let given = all_operands r.items r.behind in
+    let number : IsTrue (takes command.kind (length (files_of command.kind given))) = subst (λ (fs : List (List ℕ)). IsTrue (takes command.kind (length fs))) r.files_are r.number in
+    let few : length given ≤ images_limit + 1 = few_operands command.kind r.verb r.units r.handler r.flagged given r.named number in
     ap command_of r.words_are
     ∙ ap (λ (o : Option Given). command_with r.verb o) (makes r.items r.behind None None r.units r.handler false r.flagged [] r.each r.units_once r.handler_once (omega (arith, r.flagged_once)) (omega (arith, few)))
-    ∙ command_is r.behind r.verb r.units r.handler r.flagged (files_of r.items r.behind) command r.named r.files_are r.number
+    ∙ command_is r.behind r.verb r.units r.handler r.flagged given command r.named r.files_are r.number
 
 pub commands_are_by_rules : CommandsAreByRules
 commands_are_by_rules words command = (ruled words command, taken_from words command)
@@ -520,17 +552,30 @@ alone_within (Some tool) None None true kind e = absurd (cc)
 alone_within (Some tool) None (Some h) words kind e = absurd (cc)
 alone_within (Some tool) (Some u) handler words kind e = absurd (cc)
 
-named_within : (b : Bool) (verb : List ℕ) (units handler : Option ℕ) (words : Bool) (kind : Kind) → IsGiven Units units → IsGiven Handler handler → (if b then Some (kinds.Run (unwrap_or units default_units) (unwrap_or handler default_handler_units) words) else without_options (tool_of verb) units handler words) ≡ Some kind → IsWithinLimits kind
-named_within true verb units handler words kind given_units given_handler e =
+seed_within : (o : Option ℕ) (kind : Kind) → ((n : ℕ) → o ≡ Some n → n ≤ greatest_seed) → option_map (λ n. kinds.Generation n) o ≡ Some kind → IsWithinLimits kind
+seed_within None kind within e = absurd (cc)
+seed_within (Some n) kind within e = let same : kinds.Generation n ≡ kind = cc in subst IsWithinLimits same (within n refl)
+
+generation_within : (units handler : Option ℕ) (words : Bool) (given : List (List ℕ)) (kind : Kind) → generation units handler words given ≡ Some kind → IsWithinLimits kind
+generation_within None None false [] kind e = absurd (cc)
+generation_within None None false (seed ∷ []) kind e = seed_within (number_in 0 greatest_seed seed) kind (λ n is. (in_range 0 greatest_seed seed n is).1) e
+generation_within None None false (seed ∷ other ∷ given) kind e = absurd (cc)
+generation_within None None true given kind e = absurd (cc)
+generation_within None (Some h) words given kind e = absurd (cc)
+generation_within (Some u) handler words given kind e = absurd (cc)
+
+named_within : (a b : Bool) (verb : List ℕ) (units handler : Option ℕ) (words : Bool) (given : List (List ℕ)) (kind : Kind) → IsGiven Units units → IsGiven Handler handler → (if a then Some (kinds.Run (unwrap_or units default_units) (unwrap_or handler default_handler_units) words) else (if b then generation units handler words given else without_options (tool_of verb) units handler words)) ≡ Some kind → IsWithinLimits kind
+named_within true b verb units handler words given kind given_units given_handler e =
     let u = or_default units default_units unit_limit given_units (omega arith) (omega arith) in
     let h = or_default handler default_handler_units handler_limit given_handler (omega arith) (omega arith) in
     let same : kinds.Run (unwrap_or units default_units) (unwrap_or handler default_handler_units) words ≡ kind = cc in
     subst IsWithinLimits same (u.0, u.1, h.0, h.1)
-named_within false verb units handler words kind given_units given_handler e = alone_within (tool_of verb) units handler words kind e
+named_within false true verb units handler words given kind given_units given_handler e = generation_within units handler words given kind e
+named_within false false verb units handler words given kind given_units given_handler e = alone_within (tool_of verb) units handler words kind e
 
 pub commands_are_within_limits : CommandsAreWithinLimits
 commands_are_within_limits words command e =
     let r = ruled words command e in
-    named_within (bytes_eq r.verb (codes "run")) r.verb r.units r.handler r.flagged command.kind
+    named_within (bytes_eq r.verb (codes "run")) (bytes_eq r.verb (codes "gen")) r.verb r.units r.handler r.flagged (all_operands r.items r.behind) command.kind
     (given_option Units r.items r.units r.each r.units_once)
     (given_option Handler r.items r.handler r.each r.handler_once) r.named

@@ -1,6 +1,7 @@
 -- The command that the words of the command line are, and the files that it takes.
 use Rattle.std.specs.Prelude.{ℕ, ◌≡◌, ◌≤◌, ◌↔◌, ◌+◌, ◌&&◌, ◌==◌, nat_lt, nat_le, if◌then◌else◌, Bool, true, false, IsTrue, List, [], ◌∷◌, ◌++◌, length, slice_index, codes, Option, Some, None, unwrap_or}
 use Rattle.std.specs.List.{AllByRecursion}
+use Rattle.std.specs.Option.{option_map}
 use Rattle.std.specs.Str.{bytes_eq}
 use Rattle.mote_base.specs.Numbers.{number_in}
 use Rattle.mote_layout.specs.Limits.{image_limit, images_limit, script_limit, unit_limit, default_units, handler_limit, default_handler_units}
@@ -18,10 +19,15 @@ pub record Command : Type 0 where
   pub kind : Kind
   pub files : List (List ℕ)
 
--- whether it takes so many files: `run` a script and 1 to 64 images, and each other command an image
+-- the seeds from which inputs are made: all that have 32 bits
+abbrev pub greatest_seed : ℕ
+greatest_seed = 4294967295
+
+-- whether it takes so many files: `run` a script and 1 to 64 images, `gen` none, and each other command an image
 abbrev pub takes : Kind → ℕ → Bool
 takes (kinds.Run units handler words) count = nat_le 2 count && nat_le count (1 + images_limit)
 takes (kinds.Tool tool) count = count == 1
+takes (kinds.Generation seed) count = count == 0
 
 -- The most bytes of a tool's file: those of an image, and of the text of a module those of a script.
 abbrev pub tool_limit : Tool → ℕ
@@ -29,15 +35,17 @@ tool_limit Assembly = script_limit
 tool_limit _ = image_limit
 
 -- The most bytes of the command's file with that number, counted from 0: 1,048,576 of a script and 65,536
--- of an image.
+-- of an image. (`gen` has no file.)
 abbrev pub limit_of : Kind → ℕ → ℕ
 limit_of (kinds.Run units handler words) number = if number == 0 then script_limit else image_limit
 limit_of (kinds.Tool tool) number = tool_limit tool
+limit_of (kinds.Generation seed) number = 0
 
--- The limits of a run are in their ranges.
+-- The limits of a run are in their ranges, and so is a seed.
 abbrev pub IsWithinLimits : Kind → Type 0
 IsWithinLimits (kinds.Run units handler words) = (1 ≤ units) × (units ≤ unit_limit) × (1 ≤ handler) × (handler ≤ handler_limit)
 IsWithinLimits (kinds.Tool tool) = Unit {0}
+IsWithinLimits (kinds.Generation seed) = seed ≤ greatest_seed
 
 -- the tool of that name
 abbrev pub tool_of : List ℕ → Option Tool
@@ -55,13 +63,26 @@ abbrev pub without_options : Option Tool → Option ℕ → Option ℕ → Bool 
 without_options (Some tool) None None false = Some (kinds.Tool tool)
 without_options _ _ _ _ = None
 
--- The command of that name with these limits, each where it is given, and with the flag or without it. `run` alone takes
--- them, and has limits of its own where none is given.
-abbrev pub kind_of : List ℕ → Option ℕ → Option ℕ → Bool → Option Kind
-kind_of verb units handler words =
+-- `gen` has one operand, the seed, in decimal without leading zeros, and no options.
+abbrev pub generation : Option ℕ → Option ℕ → Bool → List (List ℕ) → Option Kind
+generation None None false (seed ∷ []) = option_map (λ n. kinds.Generation n) (number_in 0 greatest_seed seed)
+generation _ _ _ _ = None
+
+-- The command of that name with these limits, each where it is given, with the flag or without it, and with these operands.
+-- `run` alone takes limits and the flag, and has limits of its own where none is given.
+abbrev pub kind_of : List ℕ → Option ℕ → Option ℕ → Bool → List (List ℕ) → Option Kind
+kind_of verb units handler words operands =
     if bytes_eq verb (codes "run")
     then Some (kinds.Run (unwrap_or units default_units) (unwrap_or handler default_handler_units) words)
-    else without_options (tool_of verb) units handler words
+    else (if bytes_eq verb (codes "gen")
+    then generation units handler words operands
+    else without_options (tool_of verb) units handler words)
+
+-- The operands that name files: all, but of `gen`.
+abbrev pub files_of : Kind → List (List ℕ) → List (List ℕ)
+files_of (kinds.Run units handler words) operands = operands
+files_of (kinds.Tool tool) operands = operands
+files_of (kinds.Generation seed) operands = []
 
 -- The words.
 
@@ -172,9 +193,13 @@ abbrev pub ended : Option (List (List ℕ)) → List (List ℕ)
 ended None = []
 ended (Some behind) = end_of_options ∷ behind
 
+-- all operands, those behind the end of the options last
+abbrev pub all_operands : List Item → Option (List (List ℕ)) → List (List ℕ)
+all_operands items behind = operands items ++ unwrap_or behind []
+
 -- The words are this command. The first names it, and behind it stand operands and options in any order, and then maybe
 -- the end of the options, behind which every word is an operand. Each option stands at most once, and so does the flag; its
--- command takes it; and the command takes as many files as there are operands.
+-- command takes it; and the command takes as many files as its operands name, and `gen` the seed that its operand is.
 pub record IsCommand (words : List (List ℕ)) (command : Command) : Type 0 where
   pub verb : List ℕ
   pub items : List Item
@@ -187,8 +212,8 @@ pub record IsCommand (words : List (List ℕ)) (command : Command) : Type 0 wher
   pub handler_once : none_or_one handler ≡ values Handler items
   pub flagged : Bool
   pub flagged_once : zero_or_one flagged ≡ flags items
-  pub named : kind_of verb units handler flagged ≡ Some command.kind
-  pub files_are : command.files ≡ operands items ++ unwrap_or behind []
+  pub named : kind_of verb units handler flagged (all_operands items behind) ≡ Some command.kind
+  pub files_are : command.files ≡ files_of command.kind (all_operands items behind)
   pub number : IsTrue (takes command.kind (length command.files))
 
 -- The words, read from the left.
@@ -199,17 +224,17 @@ pub record Given : Type 0 where
   pub units : Option ℕ
   pub handler : Option ℕ
   pub words : Bool
-  pub files : List (List ℕ)
+  pub operands : List (List ℕ)
 
 abbrev pub nothing_given : Given
-nothing_given = record { place = Options; units = None; handler = None; words = false; files = [] }
+nothing_given = record { place = Options; units = None; handler = None; words = false; operands = [] }
 
 abbrev pub units_given : Option ℕ → ℕ → Given → Option Given
-units_given None value g = Some (record { place = Options; units = Some value; handler = g.handler; words = g.words; files = g.files })
+units_given None value g = Some (record { place = Options; units = Some value; handler = g.handler; words = g.words; operands = g.operands })
 units_given (Some before) value g = None
 
 abbrev pub handler_given : Option ℕ → ℕ → Given → Option Given
-handler_given None value g = Some (record { place = Options; units = g.units; handler = Some value; words = g.words; files = g.files })
+handler_given None value g = Some (record { place = Options; units = g.units; handler = Some value; words = g.words; operands = g.operands })
 handler_given (Some before) value g = None
 
 -- An option has its value, where it had none.
@@ -220,18 +245,18 @@ with_value Handler (Some value) g = handler_given g.handler value g
 
 -- The flag stands, where it didn't yet.
 abbrev pub flag_given : Bool → Given → Option Given
-flag_given false g = Some (record { place = Options; units = g.units; handler = g.handler; words = true; files = g.files })
+flag_given false g = Some (record { place = Options; units = g.units; handler = g.handler; words = true; operands = g.operands })
 flag_given true g = None
 
 -- one more operand, where a command may have as many
 abbrev pub with_operand : List ℕ → Given → Option Given
 with_operand word g =
-    if nat_le (length g.files) images_limit
-    then Some (record { place = g.place; units = g.units; handler = g.handler; words = g.words; files = g.files ++ word ∷ [] })
+    if nat_le (length g.operands) images_limit
+    then Some (record { place = g.place; units = g.units; handler = g.handler; words = g.words; operands = g.operands ++ word ∷ [] })
     else None
 
 abbrev pub with_place : Place → Given → Given
-with_place place g = record { place = place; units = g.units; handler = g.handler; words = g.words; files = g.files }
+with_place place g = record { place = place; units = g.units; handler = g.handler; words = g.words; operands = g.operands }
 
 -- what stands behind such a front
 abbrev pub behind_front : List ℕ → List ℕ → Option (List ℕ)
@@ -270,14 +295,15 @@ given_by [] g = g
 given_by (word ∷ words) g = given_by words (with_next word g)
 
 abbrev pub with_files : Option Kind → List (List ℕ) → Option Command
-with_files None files = None
-with_files (Some kind) files = if takes kind (length files) then Some (record { kind = kind; files = files }) else None
+with_files None operands = None
+with_files (Some kind) operands =
+    if takes kind (length (files_of kind operands)) then Some (record { kind = kind; files = files_of kind operands }) else None
 
 -- No option waits for its value where the words end.
 abbrev pub command_at : Place → List ℕ → Given → Option Command
-command_at Options verb g = with_files (kind_of verb g.units g.handler g.words) g.files
+command_at Options verb g = with_files (kind_of verb g.units g.handler g.words g.operands) g.operands
 command_at (Value setting) verb g = None
-command_at Operands verb g = with_files (kind_of verb g.units g.handler g.words) g.files
+command_at Operands verb g = with_files (kind_of verb g.units g.handler g.words g.operands) g.operands
 
 abbrev pub command_with : List ℕ → Option Given → Option Command
 command_with verb None = None

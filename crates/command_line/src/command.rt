@@ -13,6 +13,10 @@ pub enum Kind {
     },
     /// Make one file of another.
     Tool(Tool),
+    /// Run the input that a seed makes, and sum the run up.
+    Generation {
+        seed: u32,
+    },
 }
 
 /// What a command makes that takes one file and no options.
@@ -56,7 +60,8 @@ pub enum Place {
 
 /// Law: words are a command exactly where the rules of the command line say so, and then they are that one. The rules
 /// speak of operands, of options with their values and of the flag; the definition that reads the words from the left has
-/// neither more commands nor fewer. The limits of a run are in their ranges, whether they are given or not.
+/// neither more commands nor fewer. The limits of a run are in their ranges, whether they are given or not, and so is a
+/// seed.
 pub fn commands_are_by_rules()
     ensures rules { CommandsAreByRules }
     ensures limits { CommandsAreWithinLimits }

@@ -50,7 +50,8 @@ impl Lines {
     }
 
     pub fn items(&self) -> &[TraceLine]
-        ensures { result.now ≡ self.now }
+        ensures items { result.now ≡ self.now }
+        ensures few { length self.now ≤ turn_lines }
     {
         self.items.as_slice()
     }

@@ -2,6 +2,7 @@
 use Rattle.std.proofs.Common.{◌≡◌, ℕ, zero, suc, ◌+◌, ◌-◌, ◌*◌, ◌<◌, ◌≤◌, List, [], ◌∷◌, ◌++◌, length, length-append, map, refl, sym, subst, ap, ◌∙◌, arith}
 use Rattle.std.specs.List.{AllByRecursion, range_with_len}
 use Rattle.std.proofs.lemmas.List.FromFn.{length-map-range_with_len}
+use Rattle.mote_layout.specs.Limits.{event_limit}
 use Rattle.domain_model.specs.declared.script.Event.{Event}
 use Rattle.event_script.specs.Spelled.{AreEvents, AreInOrder, IsInRange}
 use Rattle.event_script.proofs.Times.{MayRun, events_run}
@@ -89,7 +90,11 @@ are_events numbers = record {
   few = omega (arith, length-append loads (packets_of numbers), length-first_loads module_count, length-first_packets numbers packet_count);
 }
 
--- With all packets they may stand in a run.
+-- With all packets they are as few as a script may have, and they may stand in a run.
+pub are_few : (numbers : List ℕ) (count : ℕ) (events : List Event) → count ≡ packet_count → events ≡ loads ++ first_packets numbers count → length events ≤ event_limit
+are_few numbers count events all are =
+    subst (λ (es : List Event). length es ≤ event_limit) (sym (are ∙ ap (λ n. loads ++ first_packets numbers n) all)) (are_events numbers).few
+
 pub may_run : (numbers : List ℕ) (count : ℕ) (events : List Event) → count ≡ packet_count → events ≡ loads ++ first_packets numbers count → MayRun events
 may_run numbers count events all are =
     subst MayRun (sym (are ∙ ap (λ n. loads ++ first_packets numbers n) all)) (events_run module_count (events_of numbers) (are_events numbers))

@@ -1,5 +1,6 @@
 //! What a seed makes.
-ghost use Rattle.std.specs.Prelude.{◌≡◌, IfOk};
+ghost use Rattle.std.specs.Prelude.{◌≡◌, ◌≤◌, length, IfOk};
+ghost use Rattle.mote_layout.specs.Limits.{event_limit};
 ghost use Rattle.domain_model.specs.Events.{event_times, loader_events, packet_times, packets_in};
 ghost use Rattle.domain_model.specs.Good.{ArePackets, AreTimes};
 ghost use Rattle.mote_gen.specs.Bundle.{files_of, images_of};
@@ -29,6 +30,7 @@ pub fn make(alloc: Global, seed: u32) -> Result<Bundle, NoMemory>
     ensures packets { IfOk result (λ bundle. ArePackets (packets_in bundle.script.events.items)) }
     ensures packet_times { IfOk result (λ bundle. AreTimes (packet_times (packets_in bundle.script.events.items))) }
     ensures times { IfOk result (λ bundle. AreTimes (event_times (loader_events bundle.script.events.items))) }
+    ensures few { IfOk result (λ bundle. length bundle.script.events.items ≤ event_limit) }
 {
     let mut numbers = Numbers { last: seed };
     let images = modules(alloc, &mut numbers)?;

@@ -8,12 +8,13 @@ use Rattle.mote_base.specs.declared.fault.Status.TheVariants.{Done, Usage, Refus
 use Rattle.command_line.specs.declared.command.Kind.TheVariants as kinds
 use Rattle.command_line.specs.declared.command.Tool.{Tool}
 use Rattle.command_line.specs.Command.{Command}
-use Rattle.mote_sim.specs.Clauses.{WritesRun, WritesTool, RefusesFiles, HasStatus, WritesFront}
+use Rattle.mote_sim.specs.Clauses.{WritesRun, WritesTool, WritesSummary, RefusesFiles, HasStatus, WritesFront}
 use Rattle.mote_sim.specs.Ending.{Ends, Answered, CutOff, IsAnswer}
+use Rattle.mote_sim.specs.Generating.{IsSummaryOf}
 use Rattle.mote_sim.specs.Reading.{Gathered}
-use Rattle.mote_sim.specs.Outcome.{outcome, Answers, AnswersOver, usage_line}
+use Rattle.mote_sim.specs.Outcome.{Outcome, outcome, Answers, MayFind, AnswersOver, usage_line}
 use Rattle.mote_sim.proofs.Counts.{HasItsFiles}
-use Rattle.mote_sim.proofs.Inversion.{over_told, writes_run, usage_answers, refuses, has_status}
+use Rattle.mote_sim.proofs.Inversion.{over_told, writes_run, generated_by, usage_answers, refuses, has_status}
 use Rattle.mote_sim.proofs.OneFile.{writes_tool}
 
 -- What Done says where the shelf tells its files and the sink its bytes.
@@ -40,6 +41,19 @@ pub tools : {K : Type 0} (w : K → Option (List ℕ)) (f : K → ℕ) (l : K �
 tools w f l a b m n files came command s few ends is tool names fs before asks told known =
     let e = done w f l a b m n files came command s ends is fs before told known in
     writes_tool tool fs names e.text before (w b) (few _ asks) (subst (λ c. Answers (outcome c fs) Done e.text) asks e.answer) e.written
+
+-- The answer of `gen` asks for no file, so it is there also where the shelf tells none.
+summary_found : (files : Option (List Named)) (came : Command → Gathered → Type 0) (seed : ℕ) (names : List (List ℕ)) (found : Outcome) (text : List ℕ) → MayFind files came (Some (record { kind = kinds.Generation seed; files = names })) found → Answers found Done text → IsSummaryOf seed text
+summary_found files came seed names found text may a = generated_by seed may.bytes text (subst (λ o. Answers o Done text) may.is a)
+
+pub generator : {K : Type 0} (w : K → Option (List ℕ)) (f : K → ℕ) (l : K → List ℕ → Bool → K → Type 0) (a b : K) (m n : ℕ) (files : Option (List Named)) (came : Command → Gathered → Type 0) (command : Option Command) (s : Status) → Ends w f l a b m n (AnswersOver files came command) s → s ≡ Done → (seed : ℕ) (names : List (List ℕ)) (before : List ℕ) → command ≡ Some (record { kind = kinds.Generation seed; files = names }) → w a ≡ Some before → WritesSummary seed before (w b)
+generator w f l a b m n files came command s ends is seed names before asks known =
+    let e = subst (λ r. Ends w f l a b m n (AnswersOver files came command) r) is ends in
+    record {
+      text = e.text;
+      sums_up = summary_found files came seed names e.answer.found e.text (subst (λ c. MayFind files came c e.answer.found) asks e.answer.may) e.answer.answer;
+      written = e.wrote.grows before known;
+    }
 
 pub usage : {K : Type 0} (w : K → Option (List ℕ)) (f : K → ℕ) (l : K → List ℕ → Bool → K → Type 0) (a b : K) (m n : ℕ) (files : Option (List Named)) (came : Command → Gathered → Type 0) (command : Option Command) (s : Status) → Ends w f l a b m n (AnswersOver files came command) s → s ≡ Usage → (command ≡ None) × Grows (w a) (w b) usage_line
 usage w f l a b m n files came command s ends is =

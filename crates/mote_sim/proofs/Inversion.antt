@@ -15,7 +15,8 @@ use Rattle.command_line.specs.Command.{Command, limit_of}
 use Rattle.event_script.specs.declared.error.ScriptError.{ScriptError}
 use Rattle.event_script.specs.Refusals.{refusal_of, events_of}
 use Rattle.mote_sim.specs.Clauses.{AreImages, WritesRun, RefusesFiles, HasStatus, HasToolStatus}
-use Rattle.mote_sim.specs.Outcome.{Outcome, NoCommand, Unheld, Refuses, Runs, Makes, outcome, outcome_of, outcome_by, outcome_of_script, Answers, MayFind, AnswersOver, usage_line}
+use Rattle.mote_sim.specs.Outcome.{Outcome, NoCommand, Unheld, Refuses, Runs, Makes, Generates, outcome, outcome_of, outcome_by, outcome_of_script, Answers, MayFind, AnswersOver, usage_line}
+use Rattle.mote_sim.specs.Generating.{IsSummaryOf}
 use Rattle.mote_sim.specs.Refusal.{Refusal}
 use Rattle.mote_sim.specs.Tools.{Output, IsMadeBy, Tells}
 use Rattle.mote_sim.specs.Reading.{Gathered, Whole, Longer, Missing, gathered_from, gathered_file, with_first}
@@ -118,6 +119,12 @@ writes_run units handler words fs (s ∷ names) text before new few a written =
       written = written ∙ ap (λ t. Some (before ++ t)) r.trace.spelled;
     }
 
+-- What is answered by Done where a seed was asked for is a summary, whatever came of files.
+pub generated_by : (seed : ℕ) (found : Gathered) (text : List ℕ) → Answers (outcome_of (kinds.Generation seed) found) Done text → IsSummaryOf seed text
+generated_by seed (Whole files) text a = a.1
+generated_by seed (Longer n) text a = let e : Done ≡ Refused = a.0 in absurd (cc)
+generated_by seed Missing text a = absurd a
+
 -- Usage tells of no tool.
 not_usage : (made : Result Output Refusal) (text : List ℕ) → Tells made Usage text → ⊥
 not_usage (Ok output) text told = let e : Usage ≡ Done = told.0 in absurd (cc)
@@ -129,6 +136,7 @@ usage_outcome NoCommand text a = (refl, a.1)
 usage_outcome Unheld text a = absurd a
 usage_outcome (Refuses refusal) text a = let e : Usage ≡ Refused = a.0 in absurd (cc)
 usage_outcome (Runs i words) text a = let e : Usage ≡ Done = a.0 in absurd (cc)
+usage_outcome (Generates seed) text a = let e : Usage ≡ Done = a.0 in absurd (cc)
 usage_outcome (Makes tool file) text a = absurd (not_usage a.made text a.told)
 
 script_is_command : (units handler : ℕ) (words : Bool) (refused : Option ScriptError) (events : List Event) (images : List (List ℕ)) → outcome_of_script units handler words refused events images ≡ NoCommand → ⊥
@@ -141,6 +149,7 @@ by_is_command (kinds.Run units handler words) (script ∷ images) e = script_is_
 by_is_command (kinds.Tool tool) [] e = cc
 by_is_command (kinds.Tool tool) (file ∷ []) e = cc
 by_is_command (kinds.Tool tool) (file ∷ other ∷ files) e = cc
+by_is_command (kinds.Generation seed) files e = cc
 
 is_command : (kind : Kind) (found : Gathered) → outcome_of kind found ≡ NoCommand → ⊥
 is_command kind (Whole files) e = by_is_command kind files e
@@ -170,6 +179,7 @@ refuses NoCommand text old new a grows = let e : Refused ≡ Usage = a.0 in absu
 refuses Unheld text old new a grows = absurd a
 refuses (Refuses refusal) text old new a grows = subst (λ t. Grows old new t) a.1 grows
 refuses (Runs i words) text old new a grows = let e : Refused ≡ Done = a.0 in absurd (cc)
+refuses (Generates seed) text old new a grows = let e : Refused ≡ Done = a.0 in absurd (cc)
 refuses (Makes tool file) text old new a grows = tool_refuses tool file text old new a.made a.is_made a.told grows
 
 -- Each answer has the status of its outcome.
@@ -178,4 +188,5 @@ has_status NoCommand s text a = a.0
 has_status Unheld s text a = a
 has_status (Refuses refusal) s text a = a.0
 has_status (Runs i words) s text a = a.0
+has_status (Generates seed) s text a = a.0
 has_status (Makes tool file) s text a = (a.made, a.is_made, tool_status a.made s text a.told)

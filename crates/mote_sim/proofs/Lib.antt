@@ -4,7 +4,9 @@ pub mod Ends
 pub mod Far
 pub mod Fronts
 pub mod Gather
+pub mod Counting
 pub mod Counts
+pub mod Unasked
 pub mod Inversion
 pub mod Judged
 pub mod OneFile
@@ -17,6 +19,7 @@ pub mod WordRuns
 pub mod WordLines
 pub mod Prepared
 pub mod Pushed
+pub mod Seeds
 pub mod SomeBytes
 pub mod Sources
 pub mod Stopped

@@ -2,6 +2,7 @@
 use Rattle.std.proofs.Common.{◌≡◌, ◌∙◌, ℕ, refl, sym, ap, subst, Bool, true, false, List, Option}
 use Rattle.std.specs.List.{AllByRecursion}
 use Rattle.mote_base.specs.declared.fault.Status.TheVariants.{Done}
+use Rattle.domain_model.specs.declared.event.Turned.TheVariants.{More}
 use Rattle.domain_model.specs.declared.line.TraceLine.{TraceLine}
 use Rattle.domain_model.specs.Events.{loader_events, packets_in}
 use Rattle.domain_model.specs.Free.{SameState}
@@ -18,14 +19,17 @@ use Rattle.unit_run.proofs.Placing.{nothing_placed}
 use Rattle.mod_loader.specs.Banks.{AreSpelled}
 use Rattle.mote_core.specs.Value.{MoteValue, state_of}
 use Rattle.mote_sim.specs.Ending.{Answered, CutOff}
+use Rattle.mote_sim.specs.declared.summary.Summary.{Summary}
+use Rattle.mote_sim.specs.Generating.{SumsUp, SumsUpFrom}
 use Rattle.mote_sim.specs.Outcome.{Answers, Runs}
 use Rattle.mote_sim.specs.Playing.{StandsAt, Played, Stopped}
+use Rattle.mote_sim.specs.Summary.{summary_of}
 use Rattle.mote_sim.specs.Trace.{IsLawfulRun, IsTraceOf}
 use Rattle.mote_sim.specs.Turns.{EndsAt}
 use Rattle.mote_sim.specs.WordRun.{IsWordRun, by_words, word_start}
 use Rattle.mote_sim.proofs.Keeping.{words_are_kept}
 use Rattle.mote_sim.proofs.Readied.{prepared_all, spelled_all}
-use Rattle.mote_sim.proofs.Sound.{IsSound, comes_to_end, lawful_end}
+use Rattle.mote_sim.proofs.Sound.{IsSound, RunsTo, comes_to_end, lawful_end}
 use Rattle.mote_sim.proofs.Untelling.{none_told}
 
 -- A state agrees with itself.
@@ -44,7 +48,7 @@ lawful_is_run (over ended) = over ended
 lawful_is_run (more t lines rest live turn run) = more t lines rest live turn.turn (lawful_is_run run)
 
 -- One from where a run begins is a run of the input.
-lawful_run : (s : State) (i : Input) (lines : List TraceLine) → s ≡ start i → Good s → LawfulRunFrom s lines → IsLawfulRun i lines
+abbrev lawful_run : (s : State) (i : Input) (lines : List TraceLine) → s ≡ start i → Good s → LawfulRunFrom s lines → IsLawfulRun i lines
 lawful_run s i lines starts good run = record {
   run = record {
     first = s;
@@ -55,10 +59,13 @@ lawful_run s i lines starts good run = record {
 }
 
 -- What the machine sees of where the word run begins is where its own runs do.
-state_starts : (m : MoteValue FlashValue) (i : Input) (words : Bool) → StandsAt m i words → state_of part m ≡ start i
+pub state_starts : (m : MoteValue FlashValue) (i : Input) (words : Bool) → StandsAt m i words → state_of part m ≡ start i
 state_starts m i words stands =
     ap (λ (x : MoteValue FlashValue). state_of part x) stands.starts
     ∙ ap (λ (images : List Prep). begins images (packets_in i.events) (loader_events i.events) i.unit_limit i.handler_limit) (prepared_all i.images stands.images stands.readied)
+
+pub goes_on : {m : MoteValue FlashValue} {i : Input} {words : Bool} → StandsAt m i words → m.ended ≡ More
+goes_on stands = ap (λ (x : MoteValue FlashValue). x.ended) stands.starts
 
 -- The mote is sound there, so that its run ends and is lawful.
 sound_there : (m : MoteValue FlashValue) (i : Input) (words : Bool) → StandsAt m i words → IsSound by_words KeepsWords m
@@ -72,20 +79,22 @@ none_where : (words : Bool) (i : Input) (lines : List TraceLine) → IsWordRun i
 none_where true i lines exact is = absurd (cc)
 none_where false i lines exact is = none_told i exact.images exact.last lines exact.ends
 
+word_run : (m last : MoteValue FlashValue) (i : Input) (words : Bool) (lines : List TraceLine) → StandsAt m i words → EndsAt by_words m lines last → IsWordRun i words lines
+word_run m last i words lines stands ends = record {
+  images = stands.images;
+  readied = stands.readied;
+  last = last;
+  ends = subst (λ (x : MoteValue FlashValue). EndsAt by_words x lines last) stands.starts ends;
+}
+
 trace_of : (m last : MoteValue FlashValue) (i : Input) (words : Bool) (lines : List TraceLine) → StandsAt m i words → EndsAt by_words m lines last → IsTraceOf i words (texts lines)
 trace_of m last i words lines stands ends =
-    let exact : IsWordRun i words lines =
-    record {
-      images = stands.images;
-      readied = stands.readied;
-      last = last;
-      ends = subst (λ (x : MoteValue FlashValue). EndsAt by_words x lines last) stands.starts ends;
-    } in
+    let exact : IsWordRun i words lines = word_run m last i words lines stands ends in
     record {
       lines = lines;
       exact = exact;
       run = lawful_run (state_of part m) i (without_ran lines) (state_starts m i words stands) stands.good
-          (lawful_end by_words KeepsWords words_are_kept m lines last (sound_there m i words stands) ends);
+          (lawful_end by_words KeepsWords words_are_kept m lines last (sound_there m i words stands) ends).run;
       plain = none_where words i lines exact;
       spelled = refl;
     }
@@ -107,4 +116,18 @@ stopped_cuts {m = m} i words stands p =
       answer = (refl, trace_of m whole.1 i words whole.0 stands whole.2);
       broke = p.within whole.0 whole.1 whole.2;
       calm = refl;
+    }
+
+-- What sums up a run from there sums up one of the input.
+pub sums_up : {m last : MoteValue FlashValue} {summary : Summary} (i : Input) → StandsAt m i false → SumsUpFrom m last summary → SumsUp i summary
+sums_up {m = m} {last = last} i stands s =
+    let exact : IsWordRun i false s.lines = word_run m last i false s.lines stands s.run in
+    let whole : RunsTo (state_of part m) s.lines (state_of part last) =
+    subst (λ ls. RunsTo (state_of part m) ls (state_of part last)) (none_told i exact.images exact.last s.lines exact.ends)
+    (lawful_end by_words KeepsWords words_are_kept m s.lines last (sound_there m i false stands) s.run) in
+    record {
+      lines = s.lines;
+      exact = exact;
+      run = lawful_run (state_of part m) i s.lines (state_starts m i false stands) stands.good whole.run;
+      is = s.is ∙ ap (λ (x : State). summary_of s.lines x) (sym whole.to);
     }

@@ -37,6 +37,7 @@ use Rattle.mote_core.specs.Exact.{Turning, Workings, came_by, closed_by, dispatc
 use Rattle.mote_core.specs.Seen.{AreLawful, seen}
 use Rattle.mote_core.specs.Value.{MoteValue, acted, state_of}
 use Rattle.mote_core.proofs.SeenLaws.{turn_is_seen}
+use Rattle.mote_sim.specs.Generating.{last_of}
 use Rattle.mote_sim.specs.Turns.{EndsAt, LeadsTo, one_more, turns}
 use Rattle.mote_sim.proofs.Turning.{more_stays, stands}
 
@@ -55,6 +56,11 @@ pub record IsSound {R : Type 0} (w : Workings R) (holds : R → Type 0) (m : Mot
   pub good : Good (state_of w.part m)
   pub held : holds m.runner
   pub spelled : AllByRecursion AreSpelled m.images
+
+-- A lawful run, and the state to which it comes.
+pub record RunsTo (s : State) (lines : List TraceLine) (last : State) : Type 0 where
+  pub run : LawfulRunFrom s lines
+  pub to : last_of run ≡ last
 
 some_is : {X : Type 0} (o : Option X) (x : X) → o ≡ Some x → IsSome o
 some_is None x is = absurd (cc)
@@ -160,31 +166,34 @@ module _ {R : Type 0} (w : Workings R) (holds : R → Type 0) (keeps : AreKept w
   sound_turns zero m sound = sound
   sound_turns (suc n) m sound = sound_turn (turns w n m).value (sound_turns n m sound)
 
-  runs_on : (n : ℕ) (m : MoteValue R) → IsSound w holds m → (rest : List TraceLine) → LawfulRunFrom (state_of w.part (turns w n m).value) rest → LawfulRunFrom (state_of w.part m) (without_ran (turns w n m).lines ++ rest)
-  runs_on zero m sound rest run = run
-  runs_on (suc n) m sound rest run =
+  runs_on : (n : ℕ) (m : MoteValue R) → IsSound w holds m → (rest : List TraceLine) (last : State) → RunsTo (state_of w.part (turns w n m).value) rest last → RunsTo (state_of w.part m) (without_ran (turns w n m).lines ++ rest) last
+  runs_on zero m sound rest last r = r
+  runs_on (suc n) m sound rest last r =
       let t : Turning R = turns w n m in
       let next : List TraceLine = without_ran (turned w t.value).lines in
       elim (stands t.value.ended) [
         | inl live ↦
             let joined : without_ran (t.lines ++ (turned w t.value).lines) ++ rest ≡ without_ran t.lines ++ (next ++ rest) =
             ap (λ ls. ls ++ rest) (filter-append (λ l. not (is_ran l)) t.lines (turned w t.value).lines) ∙ append_assoc (without_ran t.lines) next rest in
-            subst (LawfulRunFrom (state_of w.part m)) (sym joined)
-            (runs_on n m sound (next ++ rest) (more (state_of w.part (turned w t.value).value) next rest live (lawful_turn t.value (sound_turns n m sound)) run))
+            let turn : LawfulTurn (state_of w.part t.value) (state_of w.part (turned w t.value).value) next = lawful_turn t.value (sound_turns n m sound) in
+            subst (λ ls. RunsTo (state_of w.part m) ls last) (sym joined)
+            (runs_on n m sound (next ++ rest) last (record { run = more (state_of w.part (turned w t.value).value) next rest live turn r.run; to = r.to }))
         | inr done ↦
             let same : one_more w t ≡ t = more_stays w t done in
-            subst (λ (x : Turning R). LawfulRunFrom (state_of w.part m) (without_ran x.lines ++ rest)) (sym same)
-            (runs_on n m sound rest (subst (λ (x : Turning R). LawfulRunFrom (state_of w.part x.value) rest) same run))
+            subst (λ (x : Turning R). RunsTo (state_of w.part m) (without_ran x.lines ++ rest) last) (sym same)
+            (runs_on n m sound rest last (subst (λ (x : Turning R). RunsTo (state_of w.part x.value) rest last) same r))
       ]
 
-  lawful_to : (n : ℕ) (m : MoteValue R) (t : Turning R) → IsSound w holds m → turns w n m ≡ t → t.value.ended ≢ More → LawfulRunFrom (state_of w.part m) (without_ran t.lines)
+  lawful_to : (n : ℕ) (m : MoteValue R) (t : Turning R) → IsSound w holds m → turns w n m ≡ t → t.value.ended ≢ More → RunsTo (state_of w.part m) (without_ran t.lines) (state_of w.part t.value)
   lawful_to n m t sound are done =
-      subst (λ (x : Turning R). LawfulRunFrom (state_of w.part m) (without_ran x.lines)) are
-      (subst (LawfulRunFrom (state_of w.part m)) (append-nil (without_ran (turns w n m).lines))
-      (runs_on n m sound [] (over (subst (λ (x : Turning R). x.value.ended ≢ More) (sym are) done))))
+      let ended : (turns w n m).value.ended ≢ More = subst (λ (x : Turning R). x.value.ended ≢ More) (sym are) done in
+      let last : State = state_of w.part (turns w n m).value in
+      subst (λ (x : Turning R). RunsTo (state_of w.part m) (without_ran x.lines) (state_of w.part x.value)) are
+      (subst (λ ls. RunsTo (state_of w.part m) ls last) (append-nil (without_ran (turns w n m).lines))
+      (runs_on n m sound [] last (record { run = over ended; to = refl })))
 
   -- The run of a sound mote is lawful,
-  pub lawful_end : (m : MoteValue R) (lines : List TraceLine) (last : MoteValue R) → IsSound w holds m → EndsAt w m lines last → LawfulRunFrom (state_of w.part m) (without_ran lines)
+  pub lawful_end : (m : MoteValue R) (lines : List TraceLine) (last : MoteValue R) → IsSound w holds m → EndsAt w m lines last → RunsTo (state_of w.part m) (without_ran lines) (state_of w.part last)
   lawful_end m lines last sound e = lawful_to e.leads.count m (record { value = last; lines = lines }) sound e.leads.are e.ended
 
   -- and it comes to an end.

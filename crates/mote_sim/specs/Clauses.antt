@@ -17,8 +17,9 @@ use Rattle.event_script.specs.Refusals.{refusal_of, events_of}
 use Rattle.trace_text.specs.Text.{texts}
 use Rattle.avr_asm.specs.Assembly.{IsImageOf}
 use Rattle.harbor_rewrite.specs.Rewritten.{IsRewritten, SpellsOriginal}
+use Rattle.mote_sim.specs.Generating.{IsSummaryOf}
 use Rattle.mote_sim.specs.Listing.{listing_text}
-use Rattle.mote_sim.specs.Outcome.{Outcome, NoCommand, Unheld, Refuses, Runs, Makes, Answers}
+use Rattle.mote_sim.specs.Outcome.{Outcome, NoCommand, Unheld, Refuses, Runs, Makes, Generates, Answers}
 use Rattle.mote_sim.specs.Refusal.{Refusal, line_of}
 use Rattle.mote_sim.specs.Tools.{Output, Lists, Writes, Rewrites, Counts, Assembles, Says, IsMadeBy, verdict_line}
 use Rattle.mote_sim.specs.Trace.{IsLawfulRun, run_input}
@@ -79,12 +80,19 @@ pub record WritesTool (tool : Tool) (names : List (List ℕ)) (files : List Name
   pub reads : Reads output text
   pub written : new ≡ Some (before ++ text)
 
+-- The bytes that were added are the summary of a run of what the seed makes.
+pub record WritesSummary (seed : ℕ) (before : List ℕ) (new : Option (List ℕ)) : Type 0 where
+  pub text : List ℕ
+  pub sums_up : IsSummaryOf seed text
+  pub written : new ≡ Some (before ++ text)
+
 -- The command refuses its files, and the line that says why was added.
 abbrev pub RefusesFiles : Outcome → Option (List ℕ) → Option (List ℕ) → Type 0
 RefusesFiles NoCommand old new = ⊥
 RefusesFiles Unheld old new = ⊥
 RefusesFiles (Refuses refusal) old new = Grows old new (line_of refusal)
 RefusesFiles (Runs i words) old new = ⊥
+RefusesFiles (Generates seed) old new = ⊥
 RefusesFiles (Makes tool file) old new = (refusal : Refusal) × IsMadeBy tool file (Err refusal) × Grows old new (line_of refusal)
 
 -- The status that tells what a tool made.
@@ -99,6 +107,7 @@ HasStatus NoCommand s = s ≡ status.Usage
 HasStatus Unheld s = ⊥
 HasStatus (Refuses refusal) s = s ≡ status.Refused
 HasStatus (Runs i words) s = s ≡ status.Done
+HasStatus (Generates seed) s = s ≡ status.Done
 HasStatus (Makes tool file) s = (made : Result Output Refusal) × IsMadeBy tool file made × HasToolStatus made s
 
 -- A front of an output that answers was added.

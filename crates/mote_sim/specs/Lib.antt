@@ -7,6 +7,8 @@ pub mod Turns
 pub mod WordRun
 pub mod WordLaws
 pub mod Trace
+pub mod Summary
+pub mod Generating
 pub mod Listing
 pub mod Outcome
 pub mod Ending

@@ -9,7 +9,7 @@ ghost use Rattle.domain_model.specs.Good.{ArePackets, AreTimes};
 ghost use Rattle.domain_model.specs.Events.{event_times, loader_events, packet_times, packets_in};
 ghost use Rattle.event_script.specs.Refusals.{events_of, refusal_of};
 ghost use Rattle.mote_sim.specs.Asking.{AsksBy, AsksFront, Came};
-ghost use Rattle.mote_sim.specs.Clauses.{WritesRun, WritesTool, RefusesFiles, HasStatus, WritesFront};
+ghost use Rattle.mote_sim.specs.Clauses.{WritesRun, WritesTool, WritesSummary, RefusesFiles, HasStatus, WritesFront};
 ghost use Rattle.mote_sim.specs.Ending.{Ends, IsAnswer, Answered, CutOff};
 ghost use Rattle.mote_sim.specs.Outcome.{Answers, AnswersOver, Runs, outcome, outcome_by, outcome_of_script, usage_line};
 ghost use Rattle.mote_sim.specs.Reading.{Admits, AdmitsEach, bytes_of};
@@ -18,6 +18,7 @@ ghost use Rattle.mote_sim.specs.Trace.{run_input};
 ghost use Rattle.mote_sim.specs.Pieces.{LeadsBySome};
 
 use crate::assembling::{write_module, write_text};
+use crate::generating::generate;
 use crate::judging::judge;
 use crate::listing::list;
 use crate::one_line::{put_answer, put_script, put_size};
@@ -131,6 +132,7 @@ fn perform<K: Sink>(alloc: Global, kind: Kind, files: &[Vec<u8>], out: &mut K) -
             [file] => make(alloc, tool, file, out),
             _ => unreachable!(),
         },
+        Kind::Generation { seed } => generate(alloc, seed, out),
     }
 }
 
@@ -183,8 +185,9 @@ fn answer<F: Shelf, K: Sink>(alloc: Global, words: &[Word], shelf: &mut F, out: 
 /// `upgrade IMAGE` writes the file of an image of the first version in the second, and `seal IMAGE` that of an image
 /// which is neither rewritten nor sealed, sealed. `rewrite IMAGE` writes an original image with each store, stack change
 /// and call of its code checked, and `verify IMAGE` says how many units the words of such an image spell. `asm TEXT` writes
-/// the image of a module's text, and `source IMAGE` the text of an original image. All memory is taken before the first
-/// byte is written.
+/// the image of a module's text, and `source IMAGE` the text of an original image. `gen SEED` runs the images and the script
+/// that the seed makes, and writes how many units ran, how many lines of a kind a trace of the run has, and how it ended.
+/// All memory is taken before the first byte is written.
 pub fn mote_main<F: Shelf, K: Sink>(
     alloc: Global,
     words: &[Word],
@@ -206,6 +209,11 @@ pub fn mote_main<F: Shelf, K: Sink>(
         command_of words.now ≡ Some (record { kind = Kind.Tool tool; files = names }) →
         F.files shelf.old ≡ Some fs → K.written out.old ≡ Some before →
         WritesTool tool names fs before (K.written out.new) }
+
+    // Of `gen` they are the summary of a lawful run of what its seed makes.
+    ensures generator { result ≡ Status.Done → (seed : ℕ) (names : List (List ℕ)) (before : List ℕ) →
+        command_of words.now ≡ Some (record { kind = Kind.Generation seed; files = names }) →
+        K.written out.old ≡ Some before → WritesSummary seed before (K.written out.new) }
 
     // Usage: the words are no command. No command has another answer, but where the put of its line fails.
     ensures usage { result ≡ Status.Usage → (command_of words.now ≡ None)
@@ -237,8 +245,10 @@ pub fn mote_main<F: Shelf, K: Sink>(
     ensures failed_call { result ≡ Status.ReadFault →
         AsksFront F.leads shelf.old shelf.new (command_of words.now) false }
 
-    // Words that are no command ask for no call.
+    // Words that are no command ask for no call, and neither does `gen`.
     ensures no_calls { command_of words.now ≡ None → shelf.new ≡ shelf.old }
+    ensures no_files { (seed : ℕ) (names : List (List ℕ)) →
+        command_of words.now ≡ Some (record { kind = Kind.Generation seed; files = names }) → shelf.new ≡ shelf.old }
 
     // A fault of writing has its cause, a front of an output that answers was written, and no put follows.
     ensures write_fault { result ≡ Status.WriteFault → Rose (K.faults out.old) (K.faults out.new)

@@ -24,7 +24,7 @@ impl<'a> Model for Given<'a> {
 
     ghost Value = { Said };
 
-    ghost view = { λ g. record { place = g.place; units = g.units; handler = g.handler; words = g.words; files = g.operands } };
+    ghost view = { λ g. record { place = g.place; units = g.units; handler = g.handler; words = g.words; operands = g.operands } };
 }
 
 fn is_option(word: &Word) -> bool
@@ -199,8 +199,15 @@ impl<'a> Given<'a> {
     }
 
     /// The operands.
+    pub fn operands(&self) -> &Operands<'a>
+        ensures { result.now ≡ self.now.operands }
+    {
+        &self.operands
+    }
+
+    /// The operands, for good.
     pub fn into_operands(self) -> Operands<'a>
-        ensures { result ≡ self.entry.files }
+        ensures { result ≡ self.entry.operands }
     {
         self.operands
     }

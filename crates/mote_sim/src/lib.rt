@@ -4,11 +4,11 @@
 //! that it added to the sink are, of `run`, the text of a run of the machine of domains over the script and its
 //! images, and every turn of that run is lawful; of a tool, a command that takes one file, they are what its definition
 //! makes of that file: of `list` the lines of the units of an image, of `upgrade`, `seal`, `rewrite` and `asm` the file of an
-//! image, of `verify` a verdict, of `source` a text. Each
-//! other status has its cause, and every status says what was written. The definitions of the answers stand in `specs/`:
-//! `Outcome` and `Trace` say what the answer has to be, `Tools` what each tool refuses, in its order, and what it makes,
-//! `Refusal` which line says why, `Reading` what the files come to, and `Ending` what each status says of the shelf and
-//! of the sink.
+//! image, of `verify` a verdict, of `source` a text. Of `gen`, a command that takes no file, they sum up a run of what
+//! its seed makes. Each other status has its cause, and every status says what was written. The definitions of the answers
+//! stand in `specs/`: `Outcome` and `Trace` say what the answer has to be, `Tools` what each tool refuses, in its order,
+//! and what it makes, `Generating` and `Summary` how a run is summed up, `Refusal` which line says why, `Reading` what the
+//! files come to, and `Ending` what each status says of the shelf and of the sink.
 //!
 //! A further tool is a variant of `Tool` with its name, one definition in `Tools` with its refusals in their order and
 //! its output, and one function that meets it.
@@ -17,6 +17,7 @@
 mod answer;
 mod assembling;
 mod certain;
+mod generating;
 mod given;
 mod judging;
 mod laws;
@@ -29,6 +30,8 @@ mod reading;
 mod request;
 mod rewriting;
 mod sealing;
+mod summary;
+mod tally;
 
 pub use answer::mote_main;
 pub use certain::certain_status;

@@ -79,12 +79,14 @@ fn tell_lines<K: Sink>(
     Ok(())
 }
 
-// Makes one turn of a mote whose runner runs words.
-fn make_turn(mote: &mut Mote<FlashRunner>, lines: &mut Lines) -> Turned
+/// Makes one turn of a mote whose runner runs words.
+pub fn make_turn(mote: &mut Mote<FlashRunner>, lines: &mut Lines) -> Turned
     requires { lines.old ≡ [] }
     ensures exact { (record { value = mote.new; lines = lines.new }) ≡ turned by_words mote.old }
     ensures ended { result ≡ mote.new.ended }
-    ensures fewer { result ≡ Turned.More → remaining (state_of part mote.new) < remaining (state_of part mote.old) }
+    ensures on { result ≡ Turned.More → mote.old.ended ≡ Turned.More }
+    ensures fewer { mote.old.ended ≡ Turned.More →
+        remaining (state_of part mote.new) < remaining (state_of part mote.old) }
 {
     mote.turn(lines)
 }

@@ -1,12 +1,12 @@
 //! The words of the command line.
 ghost use Rattle.std.specs.Prelude.{◌≡◌, Some};
-ghost use Rattle.command_line.specs.Command.{is_option, kind_of, tool_of, tool_limit, takes, limit_of, given_by, nothing_given, command_with, command_of};
+ghost use Rattle.command_line.specs.Command.{generation, kind_of, tool_of, tool_limit, takes, limit_of, files_of, given_by, nothing_given, command_with, command_of};
 ghost use Rattle.mote_sim.specs.Request.{command_parts, asked, HasItsOperands, HasItsLimits};
 
 use crate::given::Given;
 use crate::operands::Operands;
 use command_line::{Kind, Tool};
-use mote_base::Word;
+use mote_base::{Word, number_in};
 use mote_layout::{DEFAULT_HANDLER_UNITS, DEFAULT_UNITS, IMAGE_BYTES, IMAGES, SCRIPT_BYTES};
 
 /// What the words ask for.
@@ -41,9 +41,31 @@ fn tool_of(verb: &Word) -> Option<Tool>
     }
 }
 
-// The command of that name with these limits, and with the flag or without it.
-fn kind_of(verb: &Word, units: Option<u64>, handler: Option<u64>, words: bool) -> Option<Kind>
-    ensures { result ≡ kind_of verb.now units handler words }
+// `gen`, of the seed that is the one operand.
+fn generation(
+    units: Option<u64>,
+    handler: Option<u64>,
+    words: bool,
+    operands: &Operands<'_>,
+) -> Option<Kind>
+    ensures { result ≡ generation units handler words operands.now }
+{
+    if units.is_some() || handler.is_some() || words || operands.len() != 1 {
+        return None;
+    }
+    let seed = number_in(operands.at(0).text().as_bytes(), 0, u32::MAX.into())?;
+    Some(Kind::Generation { seed: seed as u32 })
+}
+
+// The command of that name with these limits, with the flag or without it, and with these operands.
+fn kind_of(
+    verb: &Word,
+    units: Option<u64>,
+    handler: Option<u64>,
+    words: bool,
+    operands: &Operands<'_>,
+) -> Option<Kind>
+    ensures { result ≡ kind_of verb.now units handler words operands.now }
 {
     if verb.text() == "run" {
         return Some(Kind::Run {
@@ -52,19 +74,34 @@ fn kind_of(verb: &Word, units: Option<u64>, handler: Option<u64>, words: bool) -
             words,
         });
     }
+    if verb.text() == "gen" {
+        return generation(units, handler, words, operands);
+    }
     match (units, handler, words) {
         (None, None, false) => Some(Kind::Tool(tool_of(verb)?)),
         _ => None,
     }
 }
 
-// Whether a command takes so many files: `run` a script and 1 to 64 images, and a tool one file.
+// The operands that name files: all, but of `gen`.
+fn files_of<'a>(kind: Kind, operands: Operands<'a>, blank: &'a Word) -> Operands<'a>
+    ensures { result ≡ files_of kind operands.entry }
+{
+    match kind {
+        Kind::Run { .. } => operands,
+        Kind::Tool(_) => operands,
+        Kind::Generation { .. } => Operands::new(blank),
+    }
+}
+
+// Whether a command takes so many files: `run` a script and 1 to 64 images, a tool one file, and `gen` none.
 fn takes(kind: Kind, count: usize) -> bool
     ensures { result ≡ takes kind count }
 {
     match kind {
         Kind::Run { .. } => (2..=1 + IMAGES).contains(&count),
         Kind::Tool(_) => count == 1,
+        Kind::Generation { .. } => count == 0,
     }
 }
 
@@ -91,6 +128,7 @@ pub fn limit_of(kind: Kind, number: usize) -> usize
             }
         }
         Kind::Tool(tool) => tool_limit(tool),
+        Kind::Generation { .. } => 0,
     }
 }
 
@@ -113,8 +151,14 @@ fn command_of<'a>(verb: &'a Word, words: &'a [Word]) -> Option<(Kind, Operands<'
     if given.waits() {
         return None;
     }
-    let kind = kind_of(verb, given.units(), given.handler(), given.words())?;
-    let files = given.into_operands();
+    let kind = kind_of(
+        verb,
+        given.units(),
+        given.handler(),
+        given.words(),
+        given.operands(),
+    )?;
+    let files = files_of(kind, given.into_operands(), verb);
     takes(kind, files.len()).then_some((kind, files))
 }
 

@@ -4,6 +4,7 @@
 //! - `rows`: runs and listings, with their faults and limits.
 //! - `rewritten`: runs of images that a rewriter made.
 //! - `words`: which words of the command line are a command, and its options.
+//! - `generating`: runs of what a seed makes, summed up.
 //! - `images`: images that the top call writes by `upgrade` and `seal`.
 //! - `turns`: turns of a mote of `mote_core` under small limits, by two runners.
 //! - `units`: runs of modules with units and kernel calls of each kind, by the top call and by each runner.
@@ -28,6 +29,8 @@ mod calls;
 mod constants;
 #[cfg(test)]
 mod files;
+#[cfg(test)]
+mod generating;
 #[cfg(test)]
 mod images;
 #[cfg(test)]

@@ -123,6 +123,12 @@ mote: usage
 $2 list a --words
 mote: usage
 
+$2 gen --words 1
+mote: usage
+
+$2 gen 1 --words
+mote: usage
+
 $2 list -i
 mote: usage
 

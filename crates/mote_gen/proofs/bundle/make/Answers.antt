@@ -2,7 +2,7 @@ use Rattle.std.proofs.Common.{◌≡◌, ◌+◌, ◌++◌, ◌∙◌, ap, sym, 
 use Rattle.mote_gen.specs.Numbers.{number, numbers_of, packet_draws}
 use Rattle.mote_gen.specs.Packets.{loads, place_of, time_after}
 use Rattle.mote_gen.proofs.Drawn.{number_later}
-use Rattle.mote_gen.proofs.EventLaws.{may_run}
+use Rattle.mote_gen.proofs.EventLaws.{are_few, may_run}
 use Rattle.mote_gen.proofs.Events.{first_packets-zero, packets_more, time_after-zero, time_more, what_is}
 use Rattle.mote_gen.proofs.bundle.make.Goals as goal
 
@@ -36,3 +36,6 @@ returns-clause-packet_times c = (may_run _ c.loop-place.place _ (omega arith) c.
 
 pub returns-clause-times : goal.returns-clause-times
 returns-clause-times c = (may_run _ c.loop-place.place _ (omega arith) c.loop-place.invariant.events).times
+
+pub returns-clause-few : goal.returns-clause-few
+returns-clause-few c = are_few _ c.loop-place.place _ (omega arith) c.loop-place.invariant.events
