@@ -32,7 +32,7 @@ done w f l a b m n files came command s ends is fs before told known =
       written = e.wrote.grows before known;
     }
 
-pub headline : {K : Type 0} (w : K → Option (List ℕ)) (f : K → ℕ) (l : K → List ℕ → Bool → K → Type 0) (a b : K) (m n : ℕ) (files : Option (List Named)) (came : Command → Gathered → Type 0) (command : Option Command) (s : Status) → ((c : Command) → command ≡ Some c → HasItsFiles c) → Ends w f l a b m n (AnswersOver files came command) s → s ≡ Done → (units handler : ℕ) (words : Bool) (names : List (List ℕ)) (fs : List Named) (before : List ℕ) → command ≡ Some (record { kind = kinds.Run units handler words; files = names }) → files ≡ Some fs → w a ≡ Some before → WritesRun units handler names fs before (w b)
+pub headline : {K : Type 0} (w : K → Option (List ℕ)) (f : K → ℕ) (l : K → List ℕ → Bool → K → Type 0) (a b : K) (m n : ℕ) (files : Option (List Named)) (came : Command → Gathered → Type 0) (command : Option Command) (s : Status) → ((c : Command) → command ≡ Some c → HasItsFiles c) → Ends w f l a b m n (AnswersOver files came command) s → s ≡ Done → (units handler : ℕ) (words : Bool) (names : List (List ℕ)) (fs : List Named) (before : List ℕ) → command ≡ Some (record { kind = kinds.Run units handler words; files = names }) → files ≡ Some fs → w a ≡ Some before → WritesRun units handler words names fs before (w b)
 headline w f l a b m n files came command s few ends is units handler words names fs before asks told known =
     let e = done w f l a b m n files came command s ends is fs before told known in
     writes_run units handler words fs names e.text before (w b) (few _ asks) (subst (λ c. Answers (outcome c fs) Done e.text) asks e.answer) e.written

@@ -11,14 +11,18 @@ use Rattle.domain_model.specs.declared.event.Packet.{Packet}
 use Rattle.domain_model.specs.declared.line.TraceLine.{TraceLine}
 use Rattle.domain_model.specs.declared.script.Event.{Event}
 use Rattle.domain_model.specs.Events.{packets_in, loader_events, onto_packets, onto_events, packet_of, loader_event}
-use Rattle.domain_model.specs.Laws.{LawfulTurn, LawfulRunFrom}
 use Rattle.domain_model.specs.Remaining.{remaining, one_if, is_quiet, goes_on}
 use Rattle.domain_model.specs.State.{State, Input, start}
-use Rattle.domain_model.specs.Turn.{over, more}
+use Rattle.word_run.specs.FlashValue.{FlashValue, part}
+use Rattle.mote_core.specs.Exact.{turned}
+use Rattle.mote_core.specs.Value.{MoteValue, state_of}
 use Rattle.mote_sim.specs.declared.summary.Summary.{Summary}
 use Rattle.mote_sim.specs.declared.tally.Tally.{Tally}
-use Rattle.mote_sim.specs.Generating.{last_of, SumsUpFrom}
-use Rattle.mote_sim.specs.Summary.{is_load, is_run, is_queued, is_drop, is_fault, tally_of, with_lines, IsKept, summary_of}
+use Rattle.mote_sim.specs.Generating.{SumsUpFrom}
+use Rattle.mote_sim.specs.Summary.{is_load, is_run, is_queued, is_drop, is_fault, tally_of, with_lines, IsKept}
+use Rattle.mote_sim.specs.Turns.{LeadsTo}
+use Rattle.mote_sim.specs.WordRun.{by_words}
+use Rattle.mote_sim.proofs.Turning.{leads_more, leads_start}
 
 abbrev tally_with : ℕ → ℕ → ℕ → ℕ → ℕ → Tally
 tally_with loads runs queued drops faults = record { loads = loads; runs = runs; queued = queued; drops = drops; faults = faults }
@@ -69,41 +73,38 @@ line_at told i line within is =
     drop-cons told i line within ∙ ap (λ x. x ∷ drop (suc i) told) (sym is)
     ∙ ap (λ k. line ∷ drop k told) (let next : suc i ≡ i + 1 = omega arith in next)
 
--- The tally is that of the lines told so far; with the lines of each lawful run from here they are those of one from the first
--- state, with the same last state; and there are no more of them than the turns have left room for.
-pub record Counted (first here : State) (tally : Tally) : Type 0 where
+-- Turns led to here; the tally is that of their lines, and there are no more of them than the turns have left room for.
+pub record Counted (first here : MoteValue FlashValue) (tally : Tally) : Type 0 where
   pub told : List TraceLine
+  pub turns : LeadsTo by_words first told here
   pub is : tally ≡ tally_of told
-  pub goes_on : (rest : List TraceLine) (run : LawfulRunFrom here rest) → (whole : LawfulRunFrom first (told ++ rest)) × (last_of whole ≡ last_of run)
-  pub few : length told + turn_lines * remaining here ≤ turn_lines * remaining first
+  pub few : length told + turn_lines * remaining (state_of part here) ≤ turn_lines * remaining (state_of part first)
 
 -- before the first turn
-pub counted_start : (first : State) (tally : Tally) → tally ≡ tally_of [] → Counted first first tally
-counted_start first tally is = record { told = []; is = is; goes_on = λ rest run. (run, refl); few = omega arith }
+pub counted_start : (first : MoteValue FlashValue) (tally : Tally) → tally ≡ tally_of [] → Counted first first tally
+counted_start first tally is = record { told = []; turns = leads_start by_words first; is = is; few = omega arith }
 
 -- The lines of a turn can be counted, where all lines that may come can be.
 one_kept : (p : TraceLine → Bool) (n : ℕ) (told lines : List TraceLine) (before now all : ℕ) → n ≡ count_by p told → length told + turn_lines * before ≤ turn_lines * all → now < before → length lines ≤ turn_lines → turn_lines * all < 2 ^ 64 → n + count_by p lines < 2 ^ 64
 one_kept p n told lines before now all is few falls short room =
     omega (arith, is, few, falls, short, room, count_by-le-length p told, count_by-le-length p lines)
 
-pub counted_kept : {first here : State} {tally : Tally} → Counted first here tally → (there : State) (lines items : List TraceLine) → remaining there < remaining here → length lines ≤ turn_lines → items ≡ lines → turn_lines * remaining first < 2 ^ 64 → IsKept (with_lines tally items)
+pub counted_kept : {first here : MoteValue FlashValue} {tally : Tally} → Counted first here tally → (there : MoteValue FlashValue) (lines items : List TraceLine) → remaining (state_of part there) < remaining (state_of part here) → length lines ≤ turn_lines → items ≡ lines → turn_lines * remaining (state_of part first) < 2 ^ 64 → IsKept (with_lines tally items)
 counted_kept {first = first} {here = here} {tally = tally} c there lines items falls short are room =
     subst (λ ls. IsKept (with_lines tally ls)) (sym are) (record {
-      loads = one_kept is_load tally.loads c.told lines (remaining here) (remaining there) (remaining first) (ap (λ (t : Tally). t.loads) c.is) c.few falls short room;
-      runs = one_kept is_run tally.runs c.told lines (remaining here) (remaining there) (remaining first) (ap (λ (t : Tally). t.runs) c.is) c.few falls short room;
-      queued = one_kept is_queued tally.queued c.told lines (remaining here) (remaining there) (remaining first) (ap (λ (t : Tally). t.queued) c.is) c.few falls short room;
-      drops = one_kept is_drop tally.drops c.told lines (remaining here) (remaining there) (remaining first) (ap (λ (t : Tally). t.drops) c.is) c.few falls short room;
-      faults = one_kept is_fault tally.faults c.told lines (remaining here) (remaining there) (remaining first) (ap (λ (t : Tally). t.faults) c.is) c.few falls short room;
+      loads = one_kept is_load tally.loads c.told lines (remaining (state_of part here)) (remaining (state_of part there)) (remaining (state_of part first)) (ap (λ (t : Tally). t.loads) c.is) c.few falls short room;
+      runs = one_kept is_run tally.runs c.told lines (remaining (state_of part here)) (remaining (state_of part there)) (remaining (state_of part first)) (ap (λ (t : Tally). t.runs) c.is) c.few falls short room;
+      queued = one_kept is_queued tally.queued c.told lines (remaining (state_of part here)) (remaining (state_of part there)) (remaining (state_of part first)) (ap (λ (t : Tally). t.queued) c.is) c.few falls short room;
+      drops = one_kept is_drop tally.drops c.told lines (remaining (state_of part here)) (remaining (state_of part there)) (remaining (state_of part first)) (ap (λ (t : Tally). t.drops) c.is) c.few falls short room;
+      faults = one_kept is_fault tally.faults c.told lines (remaining (state_of part here)) (remaining (state_of part there)) (remaining (state_of part first)) (ap (λ (t : Tally). t.faults) c.is) c.few falls short room;
     })
 
 -- a turn whose lines were counted
-pub counted_turn : {first here : State} {tally : Tally} → Counted first here tally → (there : State) (lines items : List TraceLine) (now : Tally) → here.ended ≡ More → LawfulTurn here there lines → remaining there < remaining here → length lines ≤ turn_lines → items ≡ lines → now ≡ with_lines tally items → Counted first there now
-counted_turn {first = first} {here = here} {tally = tally} c there lines items now live turn falls short are counts = record {
+pub counted_turn : {first here : MoteValue FlashValue} {tally : Tally} → Counted first here tally → (there : MoteValue FlashValue) (lines items : List TraceLine) (now : Tally) → record { value = there; lines = lines } ≡ turned by_words here → remaining (state_of part there) < remaining (state_of part here) → length lines ≤ turn_lines → items ≡ lines → now ≡ with_lines tally items → Counted first there now
+counted_turn {first = first} {here = here} {tally = tally} c there lines items now turn falls short are counts = record {
   told = c.told ++ lines;
+  turns = leads_more by_words first here there c.told lines c.turns turn;
   is = counts ∙ ap (λ t. with_lines t items) c.is ∙ ap (λ ls. with_lines (tally_of c.told) ls) are ∙ tally_more c.told lines;
-  goes_on = λ rest run.
-      subst (λ ls. (whole : LawfulRunFrom first ls) × (last_of whole ≡ last_of run)) (sym (append_assoc c.told lines rest))
-      (c.goes_on (lines ++ rest) (more there lines rest live turn run));
   few = omega (arith, c.few, falls, short, length-append c.told lines);
 }
 
@@ -114,14 +115,12 @@ same_summary : (u u' : ℕ) (t t' : Tally) (e e' : Turned) → u ≡ u' → t �
 same_summary u u' t t' e e' units tally ended = ap (λ n. summary_with n t e) units ∙ ap (λ x. summary_with u' x e) tally ∙ ap (λ x. summary_with u' t' x) ended
 
 -- the run has ended
-pub counted_over : {first here : State} {tally : Tally} → Counted first here tally → here.ended ≢ More → (units : ℕ) (turned : Turned) → units ≡ here.total → turned ≡ here.ended → SumsUpFrom first (record { units = units; tally = tally; ended = turned })
-counted_over {first = first} {here = here} {tally = tally} c ended units turned total same =
-    let all = subst (λ ls. (whole : LawfulRunFrom first ls) × (last_of whole ≡ here)) (append-nil c.told) (c.goes_on [] (over ended)) in
-    record {
-      lines = c.told;
-      run = all.0;
-      is = same_summary units here.total tally (tally_of c.told) turned here.ended total c.is same ∙ ap (λ (s : State). summary_of c.told s) (sym all.1);
-    }
+pub counted_over : {first here : MoteValue FlashValue} {tally : Tally} → Counted first here tally → here.ended ≢ More → (units : ℕ) (turned : Turned) → units ≡ here.total → turned ≡ here.ended → SumsUpFrom first here (record { units = units; tally = tally; ended = turned })
+counted_over {here = here} {tally = tally} c ended units turned total same = record {
+  lines = c.told;
+  run = record { leads = c.turns; ended = ended };
+  is = same_summary units here.total tally (tally_of c.told) turned here.ended total c.is same;
+}
 
 -- A run goes on or has ended.
 pub live_by : (t : Turned) → goes_on t ≡ true → t ≡ More

@@ -80,19 +80,19 @@ images_whole units handler words number fs (name ∷ names) files low e =
     (one.held, subst (λ limit. length one.bytes ≤ limit) (later_limit units handler words number low) one.fits, others)
 
 -- A run that is answered by Done has a script that is not refused.
-record Ran (units handler : ℕ) (images : List (List ℕ)) (events : List Event) (refused : Option ScriptError) (text : List ℕ) : Type 0 where
+record Ran (units handler : ℕ) (words : Bool) (images : List (List ℕ)) (events : List Event) (refused : Option ScriptError) (text : List ℕ) : Type 0 where
   pub none : refused ≡ None
-  pub trace : IsTraceOf (run_input units handler images events) text
+  pub trace : IsTraceOf (run_input units handler images events) words text
 
-ran : (units handler : ℕ) (images : List (List ℕ)) (events : List Event) (refused : Option ScriptError) (text : List ℕ) → Answers (outcome_of_script units handler refused events images) Done text → Ran units handler images events refused text
-ran units handler images events (Some error) text a = let e : Done ≡ Refused = a.0 in absurd (cc)
-ran units handler images events None text a = record { none = refl; trace = a.1 }
+ran : (units handler : ℕ) (words : Bool) (images : List (List ℕ)) (events : List Event) (refused : Option ScriptError) (text : List ℕ) → Answers (outcome_of_script units handler words refused events images) Done text → Ran units handler words images events refused text
+ran units handler words images events (Some error) text a = let e : Done ≡ Refused = a.0 in absurd (cc)
+ran units handler words images events None text a = record { none = refl; trace = a.1 }
 
-ran_from : (units handler : ℕ) (words : Bool) (files images : List (List ℕ)) (script text : List ℕ) → files ≡ script ∷ images → Answers (outcome_by (kinds.Run units handler words) files) Done text → Ran units handler images (events_of script) (refusal_of (length images) script) text
+ran_from : (units handler : ℕ) (words : Bool) (files images : List (List ℕ)) (script text : List ℕ) → files ≡ script ∷ images → Answers (outcome_by (kinds.Run units handler words) files) Done text → Ran units handler words images (events_of script) (refusal_of (length images) script) text
 ran_from units handler words files images script text is a =
-    ran units handler images (events_of script) (refusal_of (length images) script) text (subst (λ xs. Answers (outcome_by (kinds.Run units handler words) xs) Done text) is a)
+    ran units handler words images (events_of script) (refusal_of (length images) script) text (subst (λ xs. Answers (outcome_by (kinds.Run units handler words) xs) Done text) is a)
 
-pub writes_run : (units handler : ℕ) (words : Bool) (fs : List Named) (names : List (List ℕ)) (text before : List ℕ) (new : Option (List ℕ)) → HasItsFiles (record { kind = kinds.Run units handler words; files = names }) → Answers (outcome_of (kinds.Run units handler words) (gathered_from (kinds.Run units handler words) 0 fs names)) Done text → new ≡ Some (before ++ text) → WritesRun units handler names fs before new
+pub writes_run : (units handler : ℕ) (words : Bool) (fs : List Named) (names : List (List ℕ)) (text before : List ℕ) (new : Option (List ℕ)) → HasItsFiles (record { kind = kinds.Run units handler words; files = names }) → Answers (outcome_of (kinds.Run units handler words) (gathered_from (kinds.Run units handler words) 0 fs names)) Done text → new ≡ Some (before ++ text) → WritesRun units handler words names fs before new
 writes_run units handler words fs [] text before new few a written = absurd a
 writes_run units handler words fs (s ∷ names) text before new few a written =
     let w = all_whole (kinds.Run units handler words) (gathered_from (kinds.Run units handler words) 0 fs (s ∷ names)) text a in
@@ -113,7 +113,9 @@ writes_run units handler words fs (s ∷ names) text before new few a written =
       events = events_of one.bytes;
       events_are = refl;
       lines = r.trace.lines;
+      exact = r.trace.exact;
       run = r.trace.run;
+      plain = r.trace.plain;
       written = written ∙ ap (λ t. Some (before ++ t)) r.trace.spelled;
     }
 
@@ -133,17 +135,17 @@ usage_outcome : (found : Outcome) (text : List ℕ) → Answers found Usage text
 usage_outcome NoCommand text a = (refl, a.1)
 usage_outcome Unheld text a = absurd a
 usage_outcome (Refuses refusal) text a = let e : Usage ≡ Refused = a.0 in absurd (cc)
-usage_outcome (Runs i) text a = let e : Usage ≡ Done = a.0 in absurd (cc)
+usage_outcome (Runs i words) text a = let e : Usage ≡ Done = a.0 in absurd (cc)
 usage_outcome (Generates seed) text a = let e : Usage ≡ Done = a.0 in absurd (cc)
 usage_outcome (Makes tool file) text a = absurd (not_usage a.made text a.told)
 
-script_is_command : (units handler : ℕ) (refused : Option ScriptError) (events : List Event) (images : List (List ℕ)) → outcome_of_script units handler refused events images ≡ NoCommand → ⊥
-script_is_command units handler (Some error) events images e = cc
-script_is_command units handler None events images e = cc
+script_is_command : (units handler : ℕ) (words : Bool) (refused : Option ScriptError) (events : List Event) (images : List (List ℕ)) → outcome_of_script units handler words refused events images ≡ NoCommand → ⊥
+script_is_command units handler words (Some error) events images e = cc
+script_is_command units handler words None events images e = cc
 
 by_is_command : (kind : Kind) (files : List (List ℕ)) → outcome_by kind files ≡ NoCommand → ⊥
 by_is_command (kinds.Run units handler words) [] e = cc
-by_is_command (kinds.Run units handler words) (script ∷ images) e = script_is_command units handler (refusal_of (length images) script) (events_of script) images e
+by_is_command (kinds.Run units handler words) (script ∷ images) e = script_is_command units handler words (refusal_of (length images) script) (events_of script) images e
 by_is_command (kinds.Tool tool) [] e = cc
 by_is_command (kinds.Tool tool) (file ∷ []) e = cc
 by_is_command (kinds.Tool tool) (file ∷ other ∷ files) e = cc
@@ -176,7 +178,7 @@ pub refuses : (found : Outcome) (text : List ℕ) (old new : Option (List ℕ)) 
 refuses NoCommand text old new a grows = let e : Refused ≡ Usage = a.0 in absurd (cc)
 refuses Unheld text old new a grows = absurd a
 refuses (Refuses refusal) text old new a grows = subst (λ t. Grows old new t) a.1 grows
-refuses (Runs i) text old new a grows = let e : Refused ≡ Done = a.0 in absurd (cc)
+refuses (Runs i words) text old new a grows = let e : Refused ≡ Done = a.0 in absurd (cc)
 refuses (Generates seed) text old new a grows = let e : Refused ≡ Done = a.0 in absurd (cc)
 refuses (Makes tool file) text old new a grows = tool_refuses tool file text old new a.made a.is_made a.told grows
 
@@ -185,6 +187,6 @@ pub has_status : (found : Outcome) (s : Status) (text : List ℕ) → Answers fo
 has_status NoCommand s text a = a.0
 has_status Unheld s text a = a
 has_status (Refuses refusal) s text a = a.0
-has_status (Runs i) s text a = a.0
+has_status (Runs i words) s text a = a.0
 has_status (Generates seed) s text a = a.0
 has_status (Makes tool file) s text a = (a.made, a.is_made, tool_status a.made s text a.told)

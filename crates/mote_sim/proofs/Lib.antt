@@ -10,7 +10,13 @@ pub mod Unasked
 pub mod Inversion
 pub mod Judged
 pub mod OneFile
-pub mod PlainTurns
+pub mod Turning
+pub mod Sound
+pub mod Keeping
+pub mod Untelling
+pub mod Readied
+pub mod WordRuns
+pub mod WordLines
 pub mod Prepared
 pub mod Pushed
 pub mod Seeds

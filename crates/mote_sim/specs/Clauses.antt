@@ -1,5 +1,5 @@
 -- What the clauses of the top call say.
-use Rattle.std.specs.Prelude.{◌≡◌, ℕ, ◌≤◌, List, [], ◌∷◌, ◌++◌, length, Option, Some, None, Result, Ok, Err, ⊤}
+use Rattle.std.specs.Prelude.{◌≡◌, ℕ, ◌≤◌, Bool, false, List, [], ◌∷◌, ◌++◌, length, Option, Some, None, Result, Ok, Err, ⊤}
 use Rattle.mote_base.specs.Files.{Named, held}
 use Rattle.mote_base.specs.Written.{Grows, IsStartOf}
 use Rattle.mote_base.specs.declared.fault.Status.{Status}
@@ -10,6 +10,7 @@ use Rattle.module_image.specs.Spelling.{spelling}
 use Rattle.command_line.specs.declared.command.Tool.{Tool}
 use Rattle.domain_model.specs.declared.script.Event.{Event}
 use Rattle.domain_model.specs.declared.line.TraceLine.{TraceLine}
+use Rattle.domain_model.specs.Runners.{without_ran}
 use Rattle.command_line.specs.declared.command.Kind.TheVariants as kinds
 use Rattle.command_line.specs.Command.{limit_of}
 use Rattle.event_script.specs.Refusals.{refusal_of, events_of}
@@ -22,6 +23,7 @@ use Rattle.mote_sim.specs.Outcome.{Outcome, NoCommand, Unheld, Refuses, Runs, Ma
 use Rattle.mote_sim.specs.Refusal.{Refusal, line_of}
 use Rattle.mote_sim.specs.Tools.{Output, Lists, Writes, Rewrites, Counts, Assembles, Says, IsMadeBy, verdict_line}
 use Rattle.mote_sim.specs.Trace.{IsLawfulRun, run_input}
+use Rattle.mote_sim.specs.WordRun.{IsWordRun}
 
 -- These are the bytes of the images of these names: each image is held, and within the limit of an image.
 abbrev pub AreImages : List Named → List (List ℕ) → List (List ℕ) → Type 0
@@ -32,9 +34,10 @@ AreImages files (name ∷ names) (image ∷ images) =
     (held files name ≡ Some image) × (length image ≤ image_limit) × AreImages files names images
 
 -- The files of `run` are a script and one image or more, up to their limit. Each was read whole and is within its
--- limit, the script is not refused, and the bytes that were added are the text of a lawful run of them within these
--- limits, whatever the images hold.
-pub record WritesRun (units handler : ℕ) (names : List (List ℕ)) (files : List Named) (before : List ℕ) (new : Option (List ℕ)) : Type 0 where
+-- limit, the script is not refused, and the bytes that were added are the text of the word run of them within these
+-- limits, whatever the images hold. Without the lines of instructions, of which there are none where they aren't asked
+-- for, its lines are a lawful run of the machine.
+pub record WritesRun (units handler : ℕ) (words : Bool) (names : List (List ℕ)) (files : List Named) (before : List ℕ) (new : Option (List ℕ)) : Type 0 where
   pub script_name : List ℕ
   pub image_names : List (List ℕ)
   pub named : names ≡ script_name ∷ image_names
@@ -49,7 +52,9 @@ pub record WritesRun (units handler : ℕ) (names : List (List ℕ)) (files : Li
   pub accepted : refusal_of (length images) script ≡ None
   pub events_are : events ≡ events_of script
   pub lines : List TraceLine
-  pub run : IsLawfulRun (run_input units handler images events) lines
+  pub exact : IsWordRun (run_input units handler images events) words lines
+  pub run : IsLawfulRun (run_input units handler images events) (without_ran lines)
+  pub plain : words ≡ false → without_ran lines ≡ lines
   pub written : new ≡ Some (before ++ texts lines)
 
 -- What a tool wrote. The file of an image reads as that image.
@@ -86,7 +91,7 @@ abbrev pub RefusesFiles : Outcome → Option (List ℕ) → Option (List ℕ) �
 RefusesFiles NoCommand old new = ⊥
 RefusesFiles Unheld old new = ⊥
 RefusesFiles (Refuses refusal) old new = Grows old new (line_of refusal)
-RefusesFiles (Runs i) old new = ⊥
+RefusesFiles (Runs i words) old new = ⊥
 RefusesFiles (Generates seed) old new = ⊥
 RefusesFiles (Makes tool file) old new = (refusal : Refusal) × IsMadeBy tool file (Err refusal) × Grows old new (line_of refusal)
 
@@ -101,7 +106,7 @@ abbrev pub HasStatus : Outcome → Status → Type 0
 HasStatus NoCommand s = s ≡ status.Usage
 HasStatus Unheld s = ⊥
 HasStatus (Refuses refusal) s = s ≡ status.Refused
-HasStatus (Runs i) s = s ≡ status.Done
+HasStatus (Runs i words) s = s ≡ status.Done
 HasStatus (Generates seed) s = s ≡ status.Done
 HasStatus (Makes tool file) s = (made : Result Output Refusal) × IsMadeBy tool file made × HasToolStatus made s
 

@@ -3,6 +3,9 @@ pub mod Request
 pub mod Reading
 pub mod Refusal
 pub mod Tools
+pub mod Turns
+pub mod WordRun
+pub mod WordLaws
 pub mod Trace
 pub mod Summary
 pub mod Generating

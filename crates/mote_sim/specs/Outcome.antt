@@ -1,5 +1,5 @@
 -- What the program has to answer.
-use Rattle.std.specs.Prelude.{◌≡◌, ℕ, List, [], ◌∷◌, length, codes, Option, Some, None}
+use Rattle.std.specs.Prelude.{◌≡◌, ℕ, Bool, List, [], ◌∷◌, length, codes, Option, Some, None}
 use Rattle.mote_base.specs.Files.{Named}
 use Rattle.mote_base.specs.declared.fault.Status.{Status}
 use Rattle.mote_base.specs.declared.fault.Status.TheVariants.{Done, Usage, Refused}
@@ -17,27 +17,27 @@ use Rattle.mote_sim.specs.Refusal.{Refusal, TooLong, BadScript, line_of}
 use Rattle.mote_sim.specs.Tools.{TellsOf}
 use Rattle.mote_sim.specs.Trace.{IsTraceOf, run_input}
 
--- The words are no command; a file of the command isn't held; the command refuses its files; this input is run; this tool
--- works on the file of these bytes; or what this seed makes is run.
+-- The words are no command; a file of the command isn't held; the command refuses its files; this input is run, and its
+-- instructions are told or not; this tool works on the file of these bytes; or what this seed makes is run.
 pub data Outcome : Type 0 where
   NoCommand : Outcome
   Unheld : Outcome
   Refuses : Refusal → Outcome
-  Runs : Input → Outcome
+  Runs : Input → Bool → Outcome
   Makes : Tool → List ℕ → Outcome
   Generates : ℕ → Outcome
 
 -- A script is refused before its images are looked at. It loads images by their numbers, so how many there are decides
 -- whether its lines are events.
-abbrev pub outcome_of_script : ℕ → ℕ → Option ScriptError → List Event → List (List ℕ) → Outcome
-outcome_of_script units handler (Some e) events images = Refuses (BadScript e)
-outcome_of_script units handler None events images = Runs (run_input units handler images events)
+abbrev pub outcome_of_script : ℕ → ℕ → Bool → Option ScriptError → List Event → List (List ℕ) → Outcome
+outcome_of_script units handler words (Some e) events images = Refuses (BadScript e)
+outcome_of_script units handler words None events images = Runs (run_input units handler images events) words
 
 -- By the bytes of a command's files: of `run` a script and its images, of a tool one file, of `gen` none. (No command has
 -- other numbers of files.)
 abbrev pub outcome_by : Kind → List (List ℕ) → Outcome
 outcome_by (kinds.Run units handler words) (script ∷ images) =
-    outcome_of_script units handler (refusal_of (length images) script) (events_of script) images
+    outcome_of_script units handler words (refusal_of (length images) script) (events_of script) images
 outcome_by (kinds.Run units handler words) [] = Unheld
 outcome_by (kinds.Tool tool) (file ∷ []) = Makes tool file
 outcome_by (kinds.Tool tool) _ = Unheld
@@ -62,7 +62,7 @@ abbrev pub Answers : Outcome → Status → List ℕ → Type 0
 Answers NoCommand status text = (status ≡ Usage) × (text ≡ usage_line)
 Answers Unheld status text = ⊥
 Answers (Refuses refusal) status text = (status ≡ Refused) × (text ≡ line_of refusal)
-Answers (Runs i) status text = (status ≡ Done) × IsTraceOf i text
+Answers (Runs i words) status text = (status ≡ Done) × IsTraceOf i words text
 Answers (Makes tool file) status text = TellsOf tool file status text
 Answers (Generates seed) status text = (status ≡ Done) × IsSummaryOf seed text
 

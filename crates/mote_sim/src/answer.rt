@@ -40,6 +40,7 @@ use std::alloc::Global;
 fn run_script<K: Sink>(
     alloc: Global,
     limits: Limits,
+    words: bool,
     script: Script,
     images: &[Vec<u8>],
     out: &mut K,
@@ -50,9 +51,9 @@ fn run_script<K: Sink>(
     requires packet_times { AreTimes (packet_times (packets_in script.events.items)) }
     requires times { AreTimes (event_times (loader_events script.events.items)) }
     ensures { Ends K.written K.faults (LeadsBySome K.leads) out.old out.new 0 0
-        (Answers (Runs (run_input limits.units limits.handler (bytes_of images.now) script.events.items))) result }
+        (Answers (Runs (run_input limits.units limits.handler (bytes_of images.now) script.events.items) words)) result }
 {
-    let mut mote = match prepare(alloc, limits, script, images) {
+    let mut mote = match prepare(alloc, limits, words, script, images) {
         Err(_) => return Status::NoMemory,
         Ok(mote) => mote,
     };
@@ -70,6 +71,7 @@ fn run_script<K: Sink>(
 fn run<K: Sink>(
     alloc: Global,
     limits: Limits,
+    words: bool,
     script: &[u8],
     images: &[Vec<u8>],
     out: &mut K,
@@ -77,11 +79,11 @@ fn run<K: Sink>(
     requires units { limits.units ≤ unit_limit }
     requires handler { (1 ≤ limits.handler) × (limits.handler ≤ handler_limit) }
     ensures { Ends K.written K.faults (LeadsBySome K.leads) out.old out.new 0 0
-        (Answers (outcome_of_script limits.units limits.handler (refusal_of (length images.now) script.now)
+        (Answers (outcome_of_script limits.units limits.handler words (refusal_of (length images.now) script.now)
         (events_of script.now) (bytes_of images.now))) result }
 {
     match parse_script(alloc, script, images.len()) {
-        Ok(script) => run_script(alloc, limits, script, images, out),
+        Ok(script) => run_script(alloc, limits, words, script, images, out),
         Err(ScriptError::NoMemory) => Status::NoMemory,
         Err(refusal) => put_script(out, &refusal),
     }
@@ -111,8 +113,19 @@ fn perform<K: Sink>(alloc: Global, kind: Kind, files: &[Vec<u8>], out: &mut K) -
         (Answers (outcome_by kind (bytes_of files.now))) result }
 {
     match kind {
-        Kind::Run { units, handler, .. } => match files {
-            [script, images @ ..] => run(alloc, Limits { units, handler }, script, images, out),
+        Kind::Run {
+            units,
+            handler,
+            words,
+        } => match files {
+            [script, images @ ..] => run(
+                alloc,
+                Limits { units, handler },
+                words,
+                script,
+                images,
+                out,
+            ),
             [] => unreachable!(),
         },
         Kind::Tool(tool) => match files {
@@ -167,7 +180,7 @@ fn answer<F: Shelf, K: Sink>(alloc: Global, words: &[Word], shelf: &mut F, out: 
 /// Does all that the program does: reads the words, reads the files that they name, and writes the answer.
 ///
 /// The words are those behind the program's name. `run SCRIPT IMAGE..` runs a script over 1 to 64 images, which
-/// it loads and unloads, and writes the trace; `--units N` limits the units of the run, and `--handler H` those of one
+/// it loads and unloads, and writes the trace, with a line for each instruction where `--words` asks for them; `--units N` limits the units of the run, and `--handler H` those of one
 /// handler, beyond which the watchdog stops it. `list IMAGE` writes the units of an image, a line for each.
 /// `upgrade IMAGE` writes the file of an image of the first version in the second, and `seal IMAGE` that of an image
 /// which is neither rewritten nor sealed, sealed. `rewrite IMAGE` writes an original image with each store, stack change
@@ -184,13 +197,13 @@ pub fn mote_main<F: Shelf, K: Sink>(
     // The shelf may be asked for the files of the command.
     requires { Admits (F.admits shelf.old) (command_of words.now) }
 
-    // Done: every file was read whole. Of `run` the bytes added are the trace of a lawful run of them within its limits,
-    // and of a tool they are what its definition makes of its file.
+    // Done: every file was read whole. Of `run` the bytes added are the trace of the word run of them within its limits,
+    // which is a lawful run of the machine, and of a tool they are what its definition makes of its file.
     ensures headline { result ≡ Status.Done →
         (units handler : ℕ) (told : Bool) (names : List (List ℕ)) (fs : List Named) (before : List ℕ) →
         command_of words.now ≡ Some (record { kind = Kind.Run units handler told; files = names }) →
         F.files shelf.old ≡ Some fs → K.written out.old ≡ Some before →
-        WritesRun units handler names fs before (K.written out.new) }
+        WritesRun units handler told names fs before (K.written out.new) }
     ensures tools { result ≡ Status.Done →
         (tool : Tool) (names : List (List ℕ)) (fs : List Named) (before : List ℕ) →
         command_of words.now ≡ Some (record { kind = Kind.Tool tool; files = names }) →

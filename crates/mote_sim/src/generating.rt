@@ -1,9 +1,9 @@
 //! A run of what a seed makes: its lines are counted, and no text is made of them.
 ghost use Rattle.std.specs.Prelude.{◌≡◌, ◌<◌, ◌*◌, ◌^◌, IfOk};
 ghost use Rattle.mote_layout.specs.Limits.{turn_lines};
-ghost use Rattle.domain_model.specs.Good.{Good};
 ghost use Rattle.domain_model.specs.Remaining.{goes_on, remaining};
-ghost use Rattle.mote_core.specs.Value.{plain_state};
+ghost use Rattle.word_run.specs.FlashValue.{part};
+ghost use Rattle.mote_core.specs.Value.{state_of};
 ghost use Rattle.mote_gen.specs.Generated.{generated};
 ghost use Rattle.mote_sim.specs.Ending.{Ends};
 ghost use Rattle.mote_sim.specs.Generating.{SumsUp, SumsUpFrom};
@@ -19,7 +19,7 @@ use mote_base::{NoMemory, Sink, Status};
 use mote_core::{Limits, Mote};
 use mote_gen::{GENERATED_HANDLER, GENERATED_UNITS, make};
 use std::alloc::Global;
-use unit_run::PlainRunner;
+use unit_run::FlashRunner;
 
 fn goes_on(turned: Turned) -> bool
     ensures { result ≡ goes_on turned }
@@ -27,12 +27,11 @@ fn goes_on(turned: Turned) -> bool
     matches!(turned, Turned::More)
 }
 
-// Makes turns of a mote that stands at the start of a run until it ends, and sums the run up.
-fn sum_up(mote: &mut Mote<PlainRunner>, lines: &mut Lines) -> Summary
-    requires good { Good (plain_state mote.old) }
+// Makes turns of a mote that goes on until it ends, and sums its run up.
+fn sum_up(mote: &mut Mote<FlashRunner>, lines: &mut Lines) -> Summary
     requires going { mote.old.ended ≡ Turned.More }
-    requires few { turn_lines * remaining (plain_state mote.old) < 2 ^ 64 }
-    ensures { SumsUpFrom (plain_state mote.old) result }
+    requires few { turn_lines * remaining (state_of part mote.old) < 2 ^ 64 }
+    ensures { SumsUpFrom mote.old mote.new result }
 {
     let mut tally = Tally::none();
     let mut turned = Turned::More;
@@ -57,7 +56,7 @@ fn run_seed(alloc: Global, seed: u32) -> Result<Summary, NoMemory>
         units: GENERATED_UNITS,
         handler: GENERATED_HANDLER,
     };
-    let mut mote = prepare(alloc, limits, bundle.script, &bundle.images)?;
+    let mut mote = prepare(alloc, limits, false, bundle.script, &bundle.images)?;
     let mut lines = Lines::new(alloc)?;
     Ok(sum_up(&mut mote, &mut lines))
 }

@@ -20,6 +20,7 @@ mod certain;
 mod generating;
 mod given;
 mod judging;
+mod laws;
 mod listing;
 mod one_line;
 mod operands;
@@ -34,3 +35,4 @@ mod tally;
 
 pub use answer::mote_main;
 pub use certain::certain_status;
+pub use laws::word_runs_are_one;

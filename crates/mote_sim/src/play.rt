@@ -2,20 +2,21 @@
 ghost use Rattle.std.specs.Prelude.{◌≡◌, ◌<◌, ◌++◌, [], OnOk};
 ghost use Rattle.arrayvec.specs.ArrayVec.{array_vec_len};
 ghost use Rattle.mote_base.specs.Written.{Puts};
-ghost use Rattle.domain_model.specs.Good.{Good};
-ghost use Rattle.domain_model.specs.Laws.{LawfulTurn};
 ghost use Rattle.domain_model.specs.Remaining.{remaining};
 ghost use Rattle.trace_text.specs.Text.{text, texts};
-ghost use Rattle.mote_core.specs.Value.{plain_state};
+ghost use Rattle.word_run.specs.FlashValue.{part};
+ghost use Rattle.mote_core.specs.Exact.{turned};
+ghost use Rattle.mote_core.specs.Value.{state_of};
 ghost use Rattle.mote_sim.specs.Playing.{Plays};
 ghost use Rattle.mote_sim.specs.Pieces.{LeadsBySome, Moves, piece_bytes};
+ghost use Rattle.mote_sim.specs.WordRun.{by_words};
 
 use arrayvec::ArrayVec;
 use domain_model::{Lines, TraceLine, Turned};
 use mote_base::{Failed, LINE_BYTES, Line, Sink};
 use mote_core::Mote;
 use trace_text::put_line;
-use unit_run::PlainRunner;
+use unit_run::FlashRunner;
 
 // How many bytes a piece of a trace has at least, but for the last piece.
 const PIECE_BYTES: usize = 4096;
@@ -78,26 +79,26 @@ fn tell_lines<K: Sink>(
     Ok(())
 }
 
-/// Makes one turn of a mote whose runner runs the units themselves: each of its lines is one of the machine's.
-pub fn make_turn(mote: &mut Mote<PlainRunner>, lines: &mut Lines) -> Turned
+/// Makes one turn of a mote whose runner runs words.
+pub fn make_turn(mote: &mut Mote<FlashRunner>, lines: &mut Lines) -> Turned
     requires { lines.old ≡ [] }
-    ensures lawful { LawfulTurn (plain_state mote.old) (plain_state mote.new) lines.new }
+    ensures exact { (record { value = mote.new; lines = lines.new }) ≡ turned by_words mote.old }
     ensures ended { result ≡ mote.new.ended }
-    ensures fewer { mote.old.ended ≡ Turned.More → remaining (plain_state mote.new) < remaining (plain_state mote.old) }
+    ensures on { result ≡ Turned.More → mote.old.ended ≡ Turned.More }
+    ensures fewer { mote.old.ended ≡ Turned.More →
+        remaining (state_of part mote.new) < remaining (state_of part mote.old) }
 {
     mote.turn(lines)
 }
 
-/// Makes turns of a mote that stands at the start of a run until it ends, and puts their lines: a piece as soon as
-/// `PIECE_BYTES` are gathered, and at the end what is left. No put follows one that failed, and no turn either.
+/// Makes turns of a mote until it ends, and puts their lines: a piece as soon as `PIECE_BYTES` are gathered, and at the end
+/// what is left. No put follows one that failed, and no turn either. A mote that has ended makes none.
 pub fn play<K: Sink>(
-    mote: &mut Mote<PlainRunner>,
+    mote: &mut Mote<FlashRunner>,
     lines: &mut Lines,
     out: &mut K,
 ) -> Result<(), Failed>
-    requires good { Good (plain_state mote.old) }
-    requires going { mote.old.ended ≡ Turned.More }
-    ensures { Plays K.written K.faults (LeadsBySome K.leads) out.old out.new (plain_state mote.old) result }
+    ensures { Plays K.written K.faults (LeadsBySome K.leads) out.old out.new mote.old mote.new result }
 {
     let mut gathered: Gathered = ArrayVec::new();
     'turns: loop {

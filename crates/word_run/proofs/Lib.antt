@@ -1,4 +1,5 @@
 pub mod FewLines
+pub mod Untold
 pub mod SecondWords
 pub mod Fetched
 pub mod Laid

@@ -13,5 +13,7 @@
 #![tactic(auto)]
 
 mod laws;
+mod telling;
 
 pub use laws::{words_run_as_units, words_write_inside};
+pub use telling::telling_adds_lines;

@@ -6,7 +6,7 @@ use Rattle.mote_core.proofs.turns.load_image.Goals as goal
 pub start-requires-clause-handler : goal.start-requires-clause-handler
 start-requires-clause-handler g c =
     let placed = placing c.args.image c.args.k.now (g.R.Runner.part c.args.r.now) c.args.ready.now c.in-Ok.domain c.load.result c.load.new.k c.in-Ok.is c.load.ensures.answer c.load.ensures.kernel in
-    placed_bank placed c.known.ensures c.in-Some.bank.now c.in-Some.ensures.code
+    placed_bank placed c.known.ensures.good c.in-Some.bank.now c.in-Some.ensures.code
 
 pub returns-in-Some-clause-kernel : goal.returns-in-Some-clause-kernel
 returns-in-Some-clause-kernel g c =

@@ -1,4 +1,4 @@
-use Rattle.std.proofs.Common.{◌≡◌, ◌≤◌, ◌<◌, ◌-◌, ℕ, Vec, sym, subst, List, [], ◌∷◌, length, take, drop, get_or, arith}
+use Rattle.std.proofs.Common.{◌≡◌, ◌≤◌, ◌<◌, ◌-◌, ℕ, Bool, Vec, sym, subst, List, [], ◌∷◌, length, take, drop, get_or, arith}
 use Rattle.std.specs.declared.alloc.Global.{Global}
 use Rattle.std.proofs.Math.ListN.{length-map}
 use Rattle.std.proofs.lemmas.List.{take_all}
@@ -27,13 +27,13 @@ returns-in-len1 g c =
     (λ s t a. subst (λ kind. Answers (outcome_by kind (bytes_of c.args.files.now)) s t) (sym c.in-Tool.is)
     (subst (λ xs. Answers (outcome_by (kinds.Tool c.in-Tool.tool) (bytes_of xs)) s t) files (rw (← c.deref-in-len1.ensures.value) a))) c.make.result c.make.ensures
 
-counted : (units handler : ℕ) (script : List ℕ) (images : List (Vec ℕ Global)) (s : Status) (t : List ℕ) → Answers (outcome_of_script units handler (refusal_of (length images) script) (events_of script) (bytes_of images)) s t → Answers (outcome_of_script units handler (refusal_of (length (bytes_of images)) script) (events_of script) (bytes_of images)) s t
-counted units handler script images s t a =
-    subst (λ n. Answers (outcome_of_script units handler (refusal_of n script) (events_of script) (bytes_of images)) s t) (sym (length-map images (λ (v : Vec ℕ Global). v.items))) a
+counted : (units handler : ℕ) (words : Bool) (script : List ℕ) (images : List (Vec ℕ Global)) (s : Status) (t : List ℕ) → Answers (outcome_of_script units handler words (refusal_of (length images) script) (events_of script) (bytes_of images)) s t → Answers (outcome_of_script units handler words (refusal_of (length (bytes_of images)) script) (events_of script) (bytes_of images)) s t
+counted units handler words script images s t a =
+    subst (λ n. Answers (outcome_of_script units handler words (refusal_of n script) (events_of script) (bytes_of images)) s t) (sym (length-map images (λ (v : Vec ℕ Global). v.items))) a
 
 pub returns-in-len1-up : goal.returns-in-len1-up
 returns-in-len1-up g c =
     let files : c.script-item.result ∷ take (length c.args.files.now - 1) (drop 1 c.args.files.now) ≡ c.args.files.now = first_and_others c.args.files.now c.script-item.result c.in-len1-up.len_at_least c.script-item.is in
     ends_as _ _ _ _ _ _ (Answers (outcome_by c.args.kind (bytes_of c.args.files.now)))
     (λ s t a. subst (λ kind. Answers (outcome_by kind (bytes_of c.args.files.now)) s t) (sym c.in-Run.is)
-    (subst (λ xs. Answers (outcome_by (kinds.Run c.in-Run.units c.in-Run.handler c.in-Run.words) (bytes_of xs)) s t) files (rw (← c.deref.ensures.value) (counted c.in-Run.units c.in-Run.handler c.deref.result.now (take (length c.args.files.now - 1) (drop 1 c.args.files.now)) s t a)))) c.run.result c.run.ensures
+    (subst (λ xs. Answers (outcome_by (kinds.Run c.in-Run.units c.in-Run.handler c.in-Run.words) (bytes_of xs)) s t) files (rw (← c.deref.ensures.value) (counted c.in-Run.units c.in-Run.handler c.in-Run.words c.deref.result.now (take (length c.args.files.now - 1) (drop 1 c.args.files.now)) s t a)))) c.run.result c.run.ensures

@@ -1,21 +1,19 @@
 use Rattle.std.proofs.Common.{◌≡◌, ◌≢◌, ◌∙◌, sym}
 use Rattle.domain_model.specs.declared.event.Turned.TheVariants.{More}
-use Rattle.mote_core.specs.Value.{plain_state}
 use Rattle.mote_sim.proofs.Counting.{counted_kept, counted_over, counted_start, counted_turn, ended_by, live_by}
 use Rattle.mote_sim.proofs.generating.sum_up.Goals as goal
 
 pub turns-init : goal.turns-init
 turns-init c = record {
-  good = c.requires.good;
   ended = sym c.requires.going;
-  counted = counted_start (plain_state c.args.mote.now) c.none-tally.result c.none-tally.ensures;
+  counted = counted_start c.args.mote.now c.none-tally.result c.none-tally.ensures;
 }
 
 pub count_all-requires : goal.count_all-requires
 count_all-requires c =
     let i = c.turns.invariant in
     let live : c.turns.mote.ended ≡ More = sym i.ended ∙ live_by c.turns.turned (sym c.goes_on.ensures ∙ c.turns-test.true) in
-    counted_kept i.counted (plain_state c.make_turn-turned.new.mote) c.make_turn-turned.new.lines c.items.result.now
+    counted_kept i.counted c.make_turn-turned.new.mote c.make_turn-turned.new.lines c.items.result.now
     (c.make_turn-turned.ensures.fewer live) c.items.ensures.few c.items.ensures.items c.requires.few
 
 pub turns-preserved : goal.turns-preserved
@@ -23,10 +21,9 @@ turns-preserved c =
     let i = c.turns.invariant in
     let live : c.turns.mote.ended ≡ More = sym i.ended ∙ live_by c.turns.turned (sym c.goes_on.ensures ∙ c.turns-test.true) in
     record {
-      good = c.make_turn-turned.ensures.lawful.good;
       ended = c.make_turn-turned.ensures.ended;
-      counted = counted_turn i.counted (plain_state c.make_turn-turned.new.mote) c.make_turn-turned.new.lines c.items.result.now c.count_all.new.self live
-          c.make_turn-turned.ensures.lawful (c.make_turn-turned.ensures.fewer live) c.items.ensures.few c.items.ensures.items c.count_all.ensures;
+      counted = counted_turn i.counted c.make_turn-turned.new.mote c.make_turn-turned.new.lines c.items.result.now c.count_all.new.self
+          c.make_turn-turned.ensures.exact (c.make_turn-turned.ensures.fewer live) c.items.ensures.few c.items.ensures.items c.count_all.ensures;
     }
 
 pub returns : goal.returns

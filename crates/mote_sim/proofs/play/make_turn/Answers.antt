@@ -1,8 +1,18 @@
-use Rattle.domain_model.specs.Turn.{choice}
-use Rattle.mote_core.specs.Value.{plain_state}
-use Rattle.mote_sim.proofs.PlainTurns.{plain_turn}
+use Rattle.std.proofs.Common.{◌≡◌, ◌≢◌, ◌∙◌, inl, inr, sym, ap}
+use Rattle.domain_model.specs.declared.event.Turned.{Turned}
+use Rattle.domain_model.specs.declared.event.Turned.TheVariants.{More}
+use Rattle.word_run.specs.FlashValue.{FlashValue}
+use Rattle.mote_core.specs.Value.{MoteValue}
+use Rattle.mote_sim.proofs.Turning.{stands}
 use Rattle.mote_sim.proofs.play.make_turn.Goals as goal
 
-pub returns-clause-lawful : goal.returns-clause-lawful
-returns-clause-lawful c =
-    plain_turn (choice (plain_state c.args.mote.now)) c.args.mote.now (plain_state c.turn.new.self) c.turn.new.lines c.turn.ensures.lines c.turn.ensures.lawful
+-- A turn behind which the run goes on did not come after an end.
+went_on : (old new : MoteValue FlashValue) → (old.ended ≢ More → new ≡ old) → new.ended ≡ More → old.ended ≡ More
+went_on old new stays more =
+    elim (stands old.ended) [
+      | inl live ↦ live
+      | inr over ↦ absurd (over (sym (ap (λ (m : MoteValue FlashValue). m.ended) (stays over)) ∙ more))
+    ]
+
+pub returns-clause-on : goal.returns-clause-on
+returns-clause-on c = λ more. went_on c.args.mote.now c.turn.new.self (λ over. (c.turn.ensures.stays over).0) (sym c.turn.ensures.ended ∙ more)
