@@ -2,6 +2,5 @@ pub mod Addresses
 pub mod Inside
 pub mod Rising
 pub mod Placing
-pub mod FlashLaws
 pub mod Beginning
 pub mod Rounds

@@ -14,3 +14,9 @@ pub mod PushPop
 pub mod Loads
 pub mod Jumps
 pub mod Skips
+pub mod Zeros
+pub mod KernelCalls
+pub mod Frames
+pub mod Groups
+pub mod FirstWrites
+pub mod WordLaws

@@ -1,5 +1,5 @@
 -- The second word of an LDS or STS is its address.
-use Rattle.std.proofs.Common.{◌≡◌, ℕ, zero, suc, List, [], ◌∷◌, Some, Ok, ap, sym, ◌∙◌, subst, refl}
+use Rattle.std.proofs.Common.{◌≡◌, ℕ, zero, suc, List, [], ◌∷◌, Some, Ok, ap, sym, ◌∙◌, subst, refl, arith}
 use Rattle.std.specs.Prelude.{⊤, slice_get}
 use Rattle.avr_isa.specs.Decoded.{decoded}
 use Rattle.avr_isa.specs.Table.{Line, Form, one_word, two_words, table, HasLine, Reads, Row}
@@ -129,7 +129,7 @@ unfolding HasLine
 line_address w l has = address_at table has.0 l table_has_addresses has.1
 
 reads_address : (form : Form) (at : Char → ℕ) (k : ℕ) (i : Instr) → HasItsAddress form → Reads form at (Some k) i 2 → IsAddressed k i
-reads_address (one_word f) at k i its reads = let two : 2 ≡ 1 = reads.1 in absurd (cc)
+reads_address (one_word f) at k i its reads = absurd (omega (arith, reads.1))
 reads_address (two_words f) at k i its reads =
     let word : reads.0 ≡ k = let e = reads.1 in cc in
     let P : Instr → Type 0 = λ j. IsAddressed k j in

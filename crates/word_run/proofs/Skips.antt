@@ -46,7 +46,7 @@ skip_inside (instr.Sbrc r b) c is = where_inside _ _
 skip_inside (instr.Sbrs r b) c is = where_inside _ _
 skip_inside _ c is = absurd is
 
-skip_names : (may : ℕ → Type 0) (i : Instr) (a over : ℕ) (c : CountingProcessor) → IsSkip i → Names a (writes i over c) → may a
+pub skip_names : (may : ℕ → Type 0) (i : Instr) (a over : ℕ) (c : CountingProcessor) → IsSkip i → Names a (writes i over c) → may a
 unfolding writes IsSkip
 skip_names may (instr.Cpse d r) a over c is w = where_names may _ _ a w
 skip_names may (instr.Sbrc r b) a over c is w = where_names may _ _ a w

@@ -1,6 +1,8 @@
 -- The laws of the words.
 use Rattle.std.specs.Prelude.{◌≡◌, ◌⊎◌, ℕ, ◌≤◌, length, true, Some, IsSome}
 use Rattle.avr_isa.specs.declared.instruction.Instr.{Instr}
+use Rattle.avr_isa.specs.declared.instruction.Instr.TheVariants.{Call}
+use Rattle.avr_machine.specs.Step.{Fetches}
 use Rattle.mote_layout.specs.Memory.{red_zone_start}
 use Rattle.unit_code.specs.declared.unit.Unit.TheVariants.{Store}
 use Rattle.domain_model.specs.declared.fault.FaultNote.{FaultNote}
@@ -47,8 +49,12 @@ abbrev pub WritesLieInside : Type 0
 WritesLieInside = (k : KernelState) (v : FlashValue) (run : Running) (a : ℕ) → HoldsWords v → GoodMachine k (part v)
     → k.running ≡ Some run → UnitWrites a v run k → IsBelowStack k a ⊎ IsStoredTo k v run a
 
--- In a unit that faults one instruction alone has run.
+-- The words of the next unit begin with a CALL.
+abbrev pub BeginsWithCall : FlashValue → Running → Type 0
+BeginsWithCall v run = (target : ℕ) × Fetches v.flash (entry_point v run.domain v.unit) (Call target) 2
+
+-- In a unit that faults one instruction alone has run, and where it has written it was a CALL.
 abbrev pub FaultsComeFirst : Type 0
 FaultsComeFirst = (k : KernelState) (v : FlashValue) (run : Running) (note : FaultNote) → HoldsWords v → GoodMachine k (part v)
     → k.running ≡ Some run → (words_act k v).ending ≡ Fault note
-    → (one_step v run k (entry_point v run.domain v.unit)).way ≡ Ends (Fault note)
+    → ((one_step v run k (entry_point v run.domain v.unit)).way ≡ Ends (Fault note)) × ((a : ℕ) → UnitWrites a v run k → BeginsWithCall v run)

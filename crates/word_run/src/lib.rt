@@ -15,5 +15,5 @@
 mod laws;
 mod telling;
 
-pub use laws::words_write_few_lines;
+pub use laws::{words_run_as_units, words_write_inside};
 pub use telling::telling_adds_lines;

@@ -2,9 +2,10 @@ use Rattle.std.proofs.Common.{◌≡◌, ◌∙◌, ℕ, ◌++◌, ap, sym, subs
 use Rattle.word_run.specs.FlashValue.{FlashValue, entry_point}
 use Rattle.word_run.specs.WordRun.{WordsActed, instruction_limit}
 use Rattle.word_run.specs.CanRun.{CanRun, HasTemplate}
+use Rattle.word_run.proofs.FewLines.{lines_are_few}
+use Rattle.word_run.proofs.WordLaws.{few_instructions_suffice}
 use Rattle.unit_run.specs.FlashRunners.{KeepsWords}
 use Rattle.unit_run.proofs.Beginning.{has_template, whole_run}
-use Rattle.unit_run.proofs.FlashLaws.{few_lines, suffices}
 use Rattle.unit_run.proofs.flash_run.FlashRunnerRunner.run_unit.Goals as goal
 
 pub entry_point-start-requires : goal.entry_point-start-requires
@@ -20,7 +21,7 @@ run_words-requires-clause-can c =
     let held : KeepsWords c.args.self.now = subst KeepsWords c.self.view_is c.self.invariant in
     subst (λ (a : ℕ). CanRun instruction_limit c.args.self.now c.in-Some.run' c.args.k.now a)
     (sym (c.entry_point-start.ensures ∙ ap (λ (u : ℕ). entry_point c.args.self.now c.in-Some.run'.domain u) at))
-    (suffices c.args.k.now c.args.self.now c.in-Some.run' held.words c.requires.good (sym c.handler.ensures ∙ c.in-Some.is))
+    (few_instructions_suffice c.args.k.now c.args.self.now c.in-Some.run' held.words c.requires.good (sym c.handler.ensures ∙ c.in-Some.is))
 
 pub returns-clause-kernel : goal.returns-clause-kernel
 returns-clause-kernel c =
@@ -44,7 +45,7 @@ returns-clause-lines c =
     c.run_words.ensures.lines ∙ ap (λ (x : WordsActed). c.args.lines.now ++ x.lines) whole
 
 pub returns-clause-few : goal.returns-clause-few
-returns-clause-few c = few_lines c.args.k.now c.args.self.now
+returns-clause-few c = lines_are_few c.args.k.now c.args.self.now
 
 pub returns-clause-ending : goal.returns-clause-ending
 returns-clause-ending c =
