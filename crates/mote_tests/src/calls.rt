@@ -124,7 +124,7 @@ $ run s a
 ";
 
 /// Functions of other modules.
-const OTHERS: &str = "\
+pub(crate) const OTHERS: &str = "\
 # Module 2's function pops at its base. Module 1, which called it, stays.
 @ b image 2 provides 1/iv00/1 code 9508 910F 9508
 @ a image 1 subscribes 2/1/iv00 code 940E F200 9508
@@ -222,7 +222,7 @@ $ run --handler 10 s b a
 ";
 
 /// Providers that come and go, messages and last handlers.
-const TURNS: &str = "\
+pub(crate) const TURNS: &str = "\
 # Module 2 comes, goes, and comes again under another domain.
 @ a image 1 subscribes 2/1/iv00 code 940E F200 9508
 @ b image 2 provides 1/iv00/1 code 9508 940E F10B 940E F108 9508
@@ -284,7 +284,7 @@ $ run s b a
 ";
 
 /// Sealed functions, and constants in them.
-const SEALED: &str = "\
+pub(crate) const SEALED: &str = "\
 # Module 2 is not the receiver, and may not read the message. Without the seal it may.
 @ a image 1 subscribes 2/1/iv00 code 940E F200 9508
 @ b image 2 version 2 flags 2 provides 1/iv00/1 code 9508 9180 0100 9508

@@ -4,7 +4,7 @@ use crate::tables::check_table;
 use std::test::Fail;
 
 /// Modules say where their constants are, and what stands there.
-const CONSTANTS: &str = "\
+pub(crate) const CONSTANTS: &str = "\
 # Module 1 says its second constant, when it comes and when it goes.
 @ a hex 53 4F 53 4D 02 01 00 00 00 00 00 00 00 05 00 03 00 FA 01 81 81 0E 94 08 F1 08 95 41 42 43
 @ s lines 0 load 0;0 dump;9 unload 1;9 dump
@@ -64,7 +64,7 @@ d end;5 end idle
 ";
 
 /// State and constants that just fit, and that don't.
-const ROOM: &str = "\
+pub(crate) const ROOM: &str = "\
 # A state of 383 blocks leaves one.
 @ a image 1 version 2 state 3064 const 01x8 code 2F85 940E F108 2F84 940E F108 9508
 @ s lines 0 load 0;0 dump
@@ -139,7 +139,7 @@ $ run s b a
 ";
 
 /// The constants of a module are no block of its own.
-const OWNERS: &str = "\
+pub(crate) const OWNERS: &str = "\
 # Module 1 stores to its constants.
 @ s lines 0 load 0;9 dump
 @ a image 1 version 2 const 41 code 01DA 930C 9508
@@ -168,7 +168,7 @@ $ run s a
 ";
 
 /// Constants of two modules, which come and go with them.
-const TWO: &str = "\
+pub(crate) const TWO: &str = "\
 @ a image 1 version 2 state 8 const 41 42 43 code 01FA 8180 940E F108 9508
 @ b image 2 version 2 const 07x9 code 01FA 8180 940E F108 9508
 @ s lines 0 load 0;0 load 1;0 dump

@@ -8,6 +8,7 @@
 //! - `images`: images that the top call writes by `upgrade` and `seal`.
 //! - `turns`: turns of a mote of `mote_core` under small limits, by two runners.
 //! - `units`: runs of modules with units and kernel calls of each kind, by the top call and by each runner.
+//! - `told`: runs whose instructions are told.
 //! - `parcels`: runs with payloads, packets and dumps, by the top call.
 //! - `constants`: runs of images with constants; `sealed`: runs of sealed ones; `calls`: runs with calls of functions;
 //!   `timers`: runs with timers.
@@ -51,6 +52,8 @@ mod sealed;
 mod tables;
 #[cfg(test)]
 mod timers;
+#[cfg(test)]
+mod told;
 #[cfg(test)]
 mod traces;
 #[cfg(test)]

@@ -4,7 +4,7 @@ use crate::tables::check_table;
 use std::test::Fail;
 
 /// Who has a block that is posted, and who when it is refused, taken or left.
-const PARCELS: &str = "\
+pub(crate) const PARCELS: &str = "\
 # Module 2 takes the payload of each message.
 @ takes image 2 code 940E F105 9508
 # Module 1 posts its state of 8 bytes to module 2.
@@ -99,7 +99,7 @@ d module 2 0 0000;d module 1 1 0200;d block 0200 8 k;d low 2 1 8 0200;d end;20 r
 ";
 
 /// What goes with a module that is unloaded, and what stays.
-const GOERS: &str = "\
+pub(crate) const GOERS: &str = "\
 # Module 2 does nothing.
 @ idles image 2 code 9508
 # Module 1 posts five blocks of 8 bytes to module 2 at each message.
@@ -130,7 +130,7 @@ d module 1 1 0200;d end;10 end idle
 ";
 
 /// Packets in the middle of a handler and outside one.
-const PACKETS: &str = "\
+pub(crate) const PACKETS: &str = "\
 # A module that counts down.
 @ counts image 1 code E00A 950A F7F1 9508
 @ s lines 0 load 0;5 radio 1 7 aabb
@@ -208,7 +208,7 @@ $ run --handler 5 s counts
 ";
 
 /// Dumps, and bytes that are sent.
-const DUMPS: &str = "\
+pub(crate) const DUMPS: &str = "\
 # Module 1 pushes without end: 752 pushes and as many jumps.
 @ pushes image 1 code 920F CFFE
 @ s lines 0 load 0;0 dump
@@ -246,7 +246,7 @@ $ run s sends_past
 ";
 
 /// The run that fills a queue: two files of two reads each, and a trace of less than a piece, which is one put.
-const FAULTS: &str = "\
+pub(crate) const FAULTS: &str = "\
 # Module 5 with a state of 8 bytes fills its low queue with sixteen short messages to itself, posts its state, and says
 # the answer.
 @ fills_and_posts image 5 state 8 code 9120 0100 3020 F009 9508 017C E110 E085 E069 940E F103 951A F7D1 E085 E048 \

@@ -10,7 +10,7 @@ use std::alloc::Global;
 use std::process::Abort;
 use std::test::Fail;
 
-const RUNS: &str = "\
+pub(crate) const RUNS: &str = "\
 # Module 1 says byte 65.
 @ says image 1 flags 1 code E481 940E F108 940C F096
 @ s lines 0 load 0

@@ -7,7 +7,7 @@ use mote_sim::certain_status;
 use std::alloc::Global;
 use std::test::Fail;
 
-const RUNS: &str = "\
+pub(crate) const RUNS: &str = "\
 # Module 1 says byte 65.
 @ says image 1 code E481 940E F108 9508
 @ s lines 0 load 0

@@ -51,7 +51,7 @@ $ run s a
 ";
 
 /// Sealed modules beside others, and in the middle of a handler.
-const BESIDE: &str = "\
+pub(crate) const BESIDE: &str = "\
 # The state of another module is not module 1's, nor are its constants; without the seal it reads both.
 @ b image 2 version 2 state 8 const 42 code 9508
 @ a image 1 version 2 flags 2 code 9180 0200 9508

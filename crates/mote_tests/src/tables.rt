@@ -19,6 +19,9 @@ pub(crate) const NEVER: u32 = 1000;
 /// What a call of a table writes has at most so many bytes.
 const ROOM: usize = 20_000;
 
+/// And so many where the instructions of its run are told.
+const TOLD_ROOM: usize = 2_000_000;
+
 #[derive(Drop)]
 struct NamedFile {
     name: &'static str,
@@ -209,6 +212,40 @@ fn check_call(rt: &impl Abort, alloc: Global, table: &Table, call: &Call) -> Res
         call.words
     );
     assert_eq!(rt; out.bytes(), call.text(), "{}: {}", call.remark, call.words);
+    Ok(())
+}
+
+/// A text without its lines that begin with `w` and a space.
+fn without_told(alloc: Global, text: &[u8]) -> Result<Vec<u8>, NoMemory> {
+    let mut kept = Vec::new(alloc);
+    for line in text.split_inclusive(|byte| *byte == b'\n') {
+        if !line.starts_with(b"w ") {
+            kept.extend_from_slice(line)?;
+        }
+    }
+    Ok(kept)
+}
+
+/// A run is answered as its call says also where its instructions are told, but for their lines.
+pub(crate) fn check_told(
+    rt: &impl Abort,
+    alloc: Global,
+    table: &Table,
+    call: &Call,
+) -> Result<(), Fail> {
+    let Some(rest) = call.words.strip_prefix("run ") else {
+        return Ok(());
+    };
+    if call.failing_read != NEVER || call.failing_put != NEVER {
+        return Ok(());
+    }
+    let words = format!(in alloc; "run --words {rest}")?;
+    let mut shelf = table.shelf_of(alloc, call.files, NEVER)?;
+    let mut out = MemSink::new(alloc, TOLD_ROOM, vec![in alloc; NEVER]?)?;
+    let status = answer(alloc, &words, &mut shelf, &mut out)?;
+    assert_eq!(rt; status.code(), call.status, "{}: {}", call.remark, words);
+    let kept = without_told(alloc, out.bytes())?;
+    assert_eq!(rt; kept.as_slice(), call.text(), "{}: {}", call.remark, words);
     Ok(())
 }
 

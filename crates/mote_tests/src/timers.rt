@@ -24,7 +24,7 @@ $ run s a
 ";
 
 /// Timers that repeat, until the run ends.
-const REPEATED: &str = "\
+pub(crate) const REPEATED: &str = "\
 # A tick is a unit: a message comes in front of each unit, and between two handlers.
 @ s lines 0 load 0
 @ a image 1 code 9120 0100 3020 F009 9508 E080 E061 E070 E041 940E F106 9508
@@ -55,7 +55,7 @@ $ run --units 112 s a
 ";
 
 /// Timers beside others, packets and the loader.
-const BESIDE: &str = "\
+pub(crate) const BESIDE: &str = "\
 # Sixteen timers are held, and a seventeenth is refused; one of the sixteen is started anew. They go with their module.
 @ a image 1 code 9100 0100 3000 F009 9508 E010 2F81 EE68 E073 E040 940E F106 940E F108 9513 3111 F7A9 E083 E062 E070 \
     940E F106 940E F108 9508

@@ -178,7 +178,7 @@ $ run s lasts_longer
 ";
 
 /// Blocks of another module.
-const GIVEN: &str = "\
+pub(crate) const GIVEN: &str = "\
 # Module 2 does nothing.
 @ idles image 2 code 9508
 # Module 1 gives its state to module 2 and stores to it.

@@ -1,11 +1,11 @@
 -- Where the words of a unit begin, and what they come to.
-use Rattle.std.proofs.Common.{◌≡◌, ◌∙◌, ℕ, Option, Some, sym, ap, subst, length, arith}
+use Rattle.std.proofs.Common.{◌≡◌, ◌∙◌, ℕ, Option, Some, sym, ap, arith}
 use Rattle.domain_model.specs.declared.handler.Running.{Running}
 use Rattle.domain_model.specs.State.{KernelState}
 use Rattle.domain_model.specs.Good.{GoodMachine}
 use Rattle.domain_model.proofs.ActLaws.{running_good}
 use Rattle.word_run.specs.FlashValue.{FlashValue, entry_point, part}
-use Rattle.word_run.specs.WordRun.{WordsActed, instruction_limit, run_from, words_act, words_by}
+use Rattle.word_run.specs.WordRun.{instruction_limit, run_from, words_act, words_by}
 use Rattle.word_run.specs.CanRun.{HasTemplate}
 use Rattle.word_run.proofs.Laid.{starts_counted}
 use Rattle.word_run.proofs.Setting.{used_below}

@@ -1,6 +1,6 @@
 -- Code is put into a bank, or taken out.
 use Rattle.std.proofs.Common.{◌≡◌, ◌∙◌, ℕ, ◌<◌, ◌≤◌, List, [], length, get_or, refl, ap, arith, length-set, inl, inr, Bool, false, replicate, sym, subst}
-use Rattle.std.specs.Prelude.{slice_index, slice_index_or, slice_set}
+use Rattle.std.specs.Prelude.{slice_index_or, slice_set}
 use Rattle.std.proofs.lemmas.Bool.{cases_eq, cases_lt}
 use Rattle.std.proofs.lemmas.List.{get_or-set_same, get_or-set_other, get_or-replicate, get_or_past, length-replicate}
 use Rattle.mote_layout.specs.Memory.{bank_words, domain_count}
@@ -10,7 +10,7 @@ use Rattle.unit_code.specs.Listing.{BankListing}
 use Rattle.domain_model.specs.Runners.{IsPlaceable}
 use Rattle.domain_model.specs.State.{RunnerState, no_runner}
 use Rattle.domain_model.proofs.UnitLaws.{proper_fits}
-use Rattle.word_run.specs.FlashValue.{FlashValue, HoldsWords, IsSpelledBank, no_words, starts_of, words_placed}
+use Rattle.word_run.specs.FlashValue.{FlashValue, no_words, starts_of, words_placed}
 use Rattle.unit_run.specs.FlashRunners.{IsBank, KeepsWords}
 use Rattle.unit_run.proofs.Rising.{spelled_count, spelled_first, spelled_low}
 

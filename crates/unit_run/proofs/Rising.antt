@@ -12,7 +12,7 @@ use Rattle.unit_code.specs.declared.unit.Shape.{Shape}
 use Rattle.unit_code.specs.declared.unit.Shape.TheVariants.{Long, Short}
 use Rattle.unit_code.specs.Ends.{long_length}
 use Rattle.unit_code.specs.Lengths.{instruction_length, spelled_length}
-use Rattle.unit_code.specs.Spelling.{Spells, starts_after, starts_of}
+use Rattle.unit_code.specs.Spelling.{Spells, starts_after}
 use Rattle.unit_code.specs.Targets.{AreFirstWords}
 use Rattle.domain_model.proofs.UnitLaws.{proper_fits}
 

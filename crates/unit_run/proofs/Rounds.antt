@@ -1,8 +1,6 @@
 -- One round of the run of words, as the code makes it.
-use Rattle.std.proofs.Common.{◌≡◌, ◌≢◌, ◌∙◌, ℕ, zero, suc, ◌<◌, ◌≤◌, ◌+◌, ◌-◌, ◌++◌, Bool, true, false, List, [], Option, None, Some, refl, sym, ap, subst, arith, append_assoc}
+use Rattle.std.proofs.Common.{◌≡◌, ◌≢◌, ◌∙◌, ℕ, suc, ◌<◌, ◌-◌, ◌++◌, Bool, true, false, [], Option, None, Some, refl, sym, ap, subst, arith}
 use Rattle.std.specs.Prelude.{nat_le}
-use Rattle.std.proofs.lemmas.List.{append-nil}
-use Rattle.std.proofs.lemmas.Option.{none-some, same_Some}
 use Rattle.avr_machine.specs.Processor.{Processor as CountingProcessor}
 use Rattle.mote_layout.specs.Memory.{domain_count}
 use Rattle.mote_layout.specs.Page.{page_start, entry_at}
@@ -11,7 +9,6 @@ use Rattle.mote_layout.specs.declared.page.Entry.TheVariants.{Return}
 use Rattle.domain_model.specs.declared.fault.UnitEnd.{UnitEnd}
 use Rattle.domain_model.specs.declared.fault.UnitEnd.TheVariants.{On}
 use Rattle.domain_model.specs.declared.handler.Running.{Running}
-use Rattle.domain_model.specs.declared.line.TraceLine.{TraceLine}
 use Rattle.domain_model.specs.State.{KernelState, at_counter, without_counter, with_processor}
 use Rattle.word_run.specs.FlashValue.{FlashValue, unit_at}
 use Rattle.word_run.specs.Entries.{Way, Goes, Ends, Reached}
