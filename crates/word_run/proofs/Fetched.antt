@@ -1,5 +1,5 @@
 -- What stands in a bank is fetched there.
-use Rattle.std.proofs.Common.{◌≡◌, ◌∙◌, ℕ, zero, suc, ◌+◌, ◌-◌, ◌%◌, ◌<◌, ◌≤◌, List, [], ◌∷◌, ◌++◌, drop, length, length-drop, get_or, Option, None, Some, Ok, refl, sym, ap, subst, arith}
+use Rattle.std.proofs.Common.{◌≡◌, ◌∙◌, ℕ, ◌+◌, ◌%◌, ◌<◌, ◌≤◌, List, [], ◌∷◌, drop, length, length-drop, get_or, None, Some, Ok, refl, sym, ap, subst, arith}
 use Rattle.std.specs.Prelude.{slice_index, slice_index_or}
 use Rattle.std.proofs.lemmas.List.{drop-drop, get_or-drop}
 use Rattle.avr_isa.specs.Decoded.{decoded}
@@ -11,7 +11,7 @@ use Rattle.avr_machine.specs.Processor.{raised}
 use Rattle.avr_machine.specs.Flash.{Banks, word_at}
 use Rattle.avr_machine.specs.Step.{fetched, following}
 use Rattle.avr_machine.proofs.BankLemmas.{word_at-bank}
-use Rattle.mote_layout.specs.Memory.{bank_start, bank_words, domain_count}
+use Rattle.mote_layout.specs.Memory.{bank_words, domain_count}
 use Rattle.unit_code.specs.Items.{next_word}
 use Rattle.unit_code.specs.Lengths.{instruction_length}
 use Rattle.unit_code.specs.Spelled.{BeginWith}

@@ -1,18 +1,16 @@
 -- What the first instruction of a unit's words writes: only a CALL writes, and a guard that refuses clears nothing.
-use Rattle.std.proofs.Common.{◌≡◌, ◌∙◌, ℕ, ℤ, ◌+◌, ◌<◌, Bool, true, false, not, List, [], ◌∷◌, ◌++◌, length, Option, None, Some, Result, Ok, pos, refl, sym, ap, subst, arith}
+use Rattle.std.proofs.Common.{◌≡◌, ℕ, ℤ, ◌+◌, Bool, true, false, not, List, ◌∷◌, ◌++◌, Option, None, Some, Result, pos, subst}
 use Rattle.std.specs.Prelude.{nat_le}
 use Rattle.avr_isa.specs.declared.instruction.Instr.{Instr}
 use Rattle.avr_isa.specs.declared.instruction.Instr.TheVariants as instr
 use Rattle.avr_isa.specs.declared.instruction.DecodeError.{DecodeError}
-use Rattle.avr_machine.specs.Conditions.{IsSkip}
-use Rattle.avr_machine.specs.Effect.{goes_where, writes}
+use Rattle.avr_machine.specs.Effect.{writes}
 use Rattle.avr_machine.specs.Processor.{Processor as CountingProcessor}
-use Rattle.avr_machine.specs.Step.{Fetches, fetched}
+use Rattle.avr_machine.specs.Step.{fetched}
 use Rattle.mote_layout.specs.Memory.{floor}
 use Rattle.mote_layout.specs.Page.{page_start, entry_at}
 use Rattle.mote_layout.specs.declared.page.Entry.{Entry}
 use Rattle.mote_layout.specs.declared.page.Entry.TheVariants as entry
-use Rattle.unit_code.specs.Lengths.{instruction_length}
 use Rattle.unit_code.specs.Spelled.{offset_to, out_high, out_low, out_status}
 use Rattle.unit_code.specs.Spelling.{form_of, start_of}
 use Rattle.unit_code.specs.Templates.{address_of, branch, enter, guard_of, template}
@@ -26,8 +24,8 @@ use Rattle.domain_model.specs.State.{KernelState, at_counter}
 use Rattle.domain_model.specs.Act.{group_sp}
 use Rattle.domain_model.proofs.InstructionLaws.{skip_is_skip}
 use Rattle.word_run.specs.FlashValue.{FlashValue, words_of, starts_of, entry_point}
-use Rattle.word_run.specs.Entries.{Ends, Goes, Way, back_kernel, group_guarded, group_under, returned_from}
-use Rattle.word_run.specs.WordRun.{after_one, arrived, at_entry, led_by, one_step}
+use Rattle.word_run.specs.Entries.{Ends, Goes, back_kernel, group_guarded, group_under, returned_from}
+use Rattle.word_run.specs.WordRun.{after_one, arrived, at_entry, one_step}
 use Rattle.word_run.specs.Writing.{ArrivalWrites, EntryWrites, GuardClears, GuardWrites, InstructionWrites, Names}
 use Rattle.word_run.specs.Laws.{BeginsWithCall}
 use Rattle.word_run.proofs.Fetched.{Stand, fetches}
@@ -98,7 +96,7 @@ skip_first : (shape : Shape) (v : FlashValue) (run : Running) (k : KernelState) 
     → Stand (words_of v run.domain) (start v run) (template (form_of (starts_of v run.domain) v.unit (start v run) (Skip i) shape) ++ behind) → First v run k a
 skip_first Long v run k i s a behind stand w =
     by_first v run k (Skip i) s a i (instr.Rjmp (pos 1) ∷ instr.Rjmp (offset_to (start v run + 2) (start_of (starts_of v run.domain) (v.unit + 2))) ∷ behind) stand
-     (λ over c named. skip_names (λ y. BeginsWithCall v run) i a over c (skip_is_skip i s.kind) named) w
+    (λ over c named. skip_names (λ y. BeginsWithCall v run) i a over c (skip_is_skip i s.kind) named) w
 skip_first Short v run k i s a behind stand w = by_first v run k (Skip i) s a i behind stand (λ over c named. skip_names (λ y. BeginsWithCall v run) i a over c (skip_is_skip i s.kind) named) w
 
 branch_first : (shape : Shape) (v : FlashValue) (run : Running) (k : KernelState) (set : Bool) (bit target : ℕ) (s : Setting v run k (Branch set bit target)) (a : ℕ) (behind : List Instr)

@@ -1,24 +1,19 @@
 -- Room on the stack, calls within the domain and of slots, and returns.
-use Rattle.std.proofs.Common.{◌≡◌, ◌≢◌, ◌∙◌, ℕ, ◌+◌, ◌-◌, ◌%◌, ◌<◌, ◌≤◌, ◌==◌, Bool, true, false, List, [], ◌∷◌, ◌++◌, length, Option, None, Some, refl, sym, ap, subst, arith}
-use Rattle.std.specs.Prelude.{nat_le, nat_lt, slice_index, slice_set, ⊤}
-use Rattle.std.proofs.lemmas.Bool.{leb-true}
-use Rattle.std.proofs.lemmas.List.{append-nil, set-set, set_comm}
-use Rattle.avr_isa.specs.declared.instruction.Instr.{Instr}
+use Rattle.std.proofs.Common.{◌≡◌, ◌≢◌, ◌∙◌, ℕ, ◌+◌, ◌-◌, ◌<◌, ◌≤◌, ◌==◌, Bool, true, false, List, [], ◌∷◌, length, Option, None, Some, refl, ap, subst, arith}
+use Rattle.std.specs.Prelude.{nat_lt, slice_index, slice_set}
+use Rattle.std.proofs.lemmas.List.{set-set, set_comm}
 use Rattle.avr_isa.specs.declared.instruction.Instr.TheVariants as instr
 use Rattle.avr_machine.specs.Conditions.{IsRunnable, IsSkip, StoresInside}
 use Rattle.avr_machine.specs.Effect.{effect, writes}
 use Rattle.avr_machine.specs.Flash.{Banks}
-use Rattle.avr_machine.specs.Laws.{with_pushed}
 use Rattle.avr_machine.specs.Processor.{Processor as CountingProcessor, high, low, lowered, raised}
 use Rattle.avr_machine.specs.Step.{CanRun as CanRunOne}
 use Rattle.mote_base.specs.Frames.{frame_limit}
 use Rattle.mote_base.specs.declared.frame.Frame.{Frame}
-use Rattle.mote_layout.specs.Memory.{bank_words, domain_count, floor, pointer_z, ram_start, red_zone_start, stack_top}
-use Rattle.mote_layout.specs.declared.page.Entry.{Entry}
+use Rattle.mote_layout.specs.Memory.{pointer_z, ram_start, red_zone_start}
 use Rattle.mote_layout.specs.declared.page.Entry.TheVariants as entry
 use Rattle.unit_code.specs.Spelled.{offset_to}
 use Rattle.unit_code.specs.Templates.{address_of}
-use Rattle.unit_code.proofs.Entries.{stands as entry_stands}
 use Rattle.unit_code.specs.declared.unit.Unit.{Unit}
 use Rattle.unit_code.specs.declared.unit.Unit.TheVariants.{LocalCall, Reserve, Return, SlotCall, SlotIndirect}
 use Rattle.domain_model.specs.declared.fault.FaultNote.{FaultNote}
@@ -31,23 +26,21 @@ use Rattle.domain_model.specs.Calls.{answered}
 use Rattle.domain_model.specs.Frames.{bound_at, call_fault, call_line, came_back, depth_fault, entry_unit, has_room, indirect_slot, local_called, reserved, resumed, room_fault, slot_called, unbound_answer, unbound_line}
 use Rattle.domain_model.specs.Act.{act_back, act_called, act_reserve, act_return, act_slot, act_indirect, act_unit, bank, goes_on, goes_to, stopped}
 use Rattle.domain_model.specs.Good.{AreFrames, GoodMachine, IsBelow}
-use Rattle.domain_model.specs.Modules.{in_use}
 use Rattle.domain_model.proofs.ActLaws.{running_good}
 use Rattle.domain_model.proofs.CallLaws.{bound_enters}
-use Rattle.kernel_call.specs.declared.calls.SlotEnd.TheVariants as slot_end
-use Rattle.kernel_call.specs.Calling.{SlotCalling, called_slot, called_within, entered_slot, returned_by, returned_to, returning, slot_by, unless}
+use Rattle.kernel_call.specs.Calling.{called_slot, entered_slot, returned_by, returned_to, returning, slot_by, unless}
 use Rattle.word_run.specs.FlashValue.{FlashValue, HoldsWords, part, words_of, starts_of, address_in, entry_point, unit_at}
-use Rattle.word_run.specs.Entries.{Ends, Goes, Reached, called_row, come_back, ended, going, indirect_called, local_from, local_way, refused, room_made, slot_called as slot_row, slot_from, slot_reached, slot_way}
-use Rattle.word_run.specs.CanRun.{CanCallSlot, HasTemplate, IsOnStack, LeadsBack, LeadsInto}
+use Rattle.word_run.specs.Entries.{Goes, come_back, ended, going, indirect_called, local_from, local_way, room_made, slot_called as slot_row, slot_from, slot_reached}
+use Rattle.word_run.specs.CanRun.{CanCallSlot, HasTemplate, LeadsBack, LeadsInto}
 use Rattle.word_run.specs.Writing.{Names}
 use Rattle.word_run.proofs.Fetched.{Stand, stand_behind, stand_within}
 use Rattle.word_run.proofs.Guarded.{back_in, back_processor, behind_call, call_but, called_entry, in_stack, on_stack, refused_unit}
 use Rattle.word_run.proofs.Jumps.{jump_step, reaches}
 use Rattle.word_run.proofs.Laid.{starts_counted}
 use Rattle.word_run.proofs.Moves.{OnStack, Row, call_step, pushed_by}
-use Rattle.word_run.proofs.Same.{IsBut, Meets, all_met, dead_free, free_of, like_met, same_but, still_met}
+use Rattle.word_run.proofs.Same.{Meets, all_met, dead_free, free_of, like_met, same_but, still_met}
 use Rattle.word_run.proofs.Setting.{Setting, laid, lands, lands_inside, lands_next, start, start_below, used_below}
-use Rattle.word_run.proofs.Steps.{InBank, Leads, Steps, continues, ends, enters, halts, page_below, page_from, turned}
+use Rattle.word_run.proofs.Steps.{Leads, Steps, continues, ends, enters, halts, turned}
 
 -- Two bytes 0 stand in place of the pushed address.
 zeros_again : (m : List ℕ) (j i lo hi : ℕ) → i ≢ j → slice_set (slice_set (slice_set (slice_set m j lo) i hi) j 0) i 0 ≡ slice_set (slice_set m j 0) i 0

@@ -1,6 +1,6 @@
 -- Groups that set the stack pointer.
-use Rattle.std.proofs.Common.{◌≡◌, ◌∙◌, ℕ, ◌+◌, ◌-◌, ◌*◌, ◌/◌, ◌%◌, ◌<◌, ◌≤◌, ◌==◌, ◌||◌, Bool, true, false, List, [], ◌∷◌, length, Option, Some, refl, sym, ap, subst, arith, inl, inr}
-use Rattle.std.specs.Prelude.{nat_le, slice_index, IsTrue}
+use Rattle.std.proofs.Common.{◌≡◌, ◌∙◌, ℕ, ◌+◌, ◌-◌, ◌*◌, ◌/◌, ◌%◌, ◌<◌, ◌≤◌, ◌==◌, ◌||◌, Bool, true, false, List, [], ◌∷◌, length, refl, sym, ap, subst, arith, inl, inr}
+use Rattle.std.specs.Prelude.{nat_le, slice_index}
 use Rattle.std.proofs.lemmas.Bool.{cases_lt, leb-true, true≢false}
 use Rattle.avr_isa.specs.declared.instruction.Instr.{Instr}
 use Rattle.avr_isa.specs.declared.instruction.Instr.TheVariants as instr
@@ -8,24 +8,22 @@ use Rattle.avr_machine.specs.Conditions.{IsRunnable, IsSkip, StoresInside}
 use Rattle.avr_machine.specs.Effect.{effect, writes}
 use Rattle.avr_machine.specs.Flash.{Banks}
 use Rattle.avr_machine.specs.Processor.{Processor as CountingProcessor, high, low, lowered}
-use Rattle.avr_machine.specs.Step.{CanRun as CanRunOne, following}
-use Rattle.mote_layout.specs.Memory.{floor, ram_bytes, ram_start, red_zone_start, sph_port, spl_port, sreg_port, stack_top}
+use Rattle.avr_machine.specs.Step.{CanRun as CanRunOne}
+use Rattle.mote_layout.specs.Memory.{floor, ram_start, red_zone_start, sph_port, spl_port, sreg_port}
 use Rattle.mote_layout.specs.declared.page.Entry.TheVariants as entry
-use Rattle.unit_code.specs.Lengths.{instruction_length, spelled_length}
+use Rattle.unit_code.specs.Lengths.{spelled_length}
 use Rattle.unit_code.specs.Spelled.{out_high, out_low, out_status}
 use Rattle.unit_code.specs.Templates.{enter}
-use Rattle.unit_code.specs.declared.unit.Unit.{Unit}
 use Rattle.unit_code.specs.declared.unit.Unit.TheVariants.{SpGroup}
-use Rattle.domain_model.specs.declared.fault.Rule.{Rule}
 use Rattle.domain_model.specs.declared.fault.Rule.TheVariants as rule
 use Rattle.domain_model.specs.declared.handler.Running.{Running}
-use Rattle.domain_model.specs.State.{KernelState, Processor, at_counter, without_counter, with_processor, with_zeros}
+use Rattle.domain_model.specs.State.{KernelState, Processor, at_counter, without_counter, with_processor}
 use Rattle.domain_model.specs.Act.{act_group, act_under, act_unit, goes_to, group_effect, group_sp}
 use Rattle.domain_model.proofs.BlockLaws.{zeros_length}
 use Rattle.domain_model.proofs.ByteLists.{zeros_bytes}
 use Rattle.word_run.specs.FlashValue.{FlashValue, part, words_of, starts_of, address_in, entry_point}
 use Rattle.word_run.specs.Entries.{called_row, going, group_guarded, group_under, uncovered}
-use Rattle.word_run.specs.Writing.{EntryWrites, GuardClears, Names}
+use Rattle.word_run.specs.Writing.{GuardClears, Names}
 use Rattle.word_run.proofs.Fetched.{Stand, stand_behind, stand_within}
 use Rattle.word_run.proofs.Guarded.{back_in, back_processor, behind_call, call_but, called_entry, in_stack, on_stack, refused_unit}
 use Rattle.word_run.proofs.Loads.{pushed_other}

@@ -1,11 +1,10 @@
 -- Units of one instruction behind a guard.
-use Rattle.std.proofs.Common.{◌≡◌, ◌∙◌, ℕ, ◌+◌, ◌-◌, ◌<◌, ◌≤◌, Bool, true, false, List, [], ◌∷◌, length, Option, Some, refl, sym, ap, subst, arith}
+use Rattle.std.proofs.Common.{◌≡◌, ◌∙◌, ℕ, ◌+◌, ◌<◌, ◌≤◌, Bool, true, false, List, [], ◌∷◌, length, Some, refl, sym, ap, subst, arith}
 use Rattle.avr_isa.specs.declared.instruction.Instr.{Instr}
 use Rattle.avr_machine.specs.Conditions.{IsStraight, StoresInside}
 use Rattle.avr_machine.specs.Effect.{writes}
-use Rattle.avr_machine.specs.Laws.{with_pushed}
 use Rattle.avr_machine.specs.Processor.{Processor as CountingProcessor}
-use Rattle.mote_layout.specs.Memory.{bank_words, floor, ram_bytes, red_zone_start, stack_top}
+use Rattle.mote_layout.specs.Memory.{red_zone_start}
 use Rattle.mote_layout.specs.declared.page.Entry.{Entry}
 use Rattle.unit_code.specs.Lengths.{instruction_length, spelled_length}
 use Rattle.unit_code.specs.Templates.{IsEntry, enter}
@@ -13,7 +12,6 @@ use Rattle.unit_code.specs.declared.unit.Unit.{Unit}
 use Rattle.domain_model.specs.declared.fault.Rule.{Rule}
 use Rattle.domain_model.specs.declared.fault.UnitEnd.TheVariants.{Fault}
 use Rattle.domain_model.specs.declared.handler.Running.{Running}
-use Rattle.domain_model.specs.Bytes.{AreBytes}
 use Rattle.domain_model.specs.State.{KernelState, Processor, at_counter, without_counter, with_processor}
 use Rattle.domain_model.specs.Act.{act_effect, faults, goes_to, plain_effect}
 use Rattle.domain_model.specs.Free.{SameKernel}

@@ -1,5 +1,5 @@
 -- Jumps and branches.
-use Rattle.std.proofs.Common.{◌≡◌, ◌∙◌, ℕ, ℤ, pos, negsuc, ◌+◌, ◌-◌, ◌%◌, ◌<◌, ◌≤◌, Bool, true, false, not, List, [], ◌∷◌, ◌++◌, length, Option, Some, refl, sym, ap, subst, arith, inl, inr}
+use Rattle.std.proofs.Common.{◌≡◌, ◌∙◌, ℕ, ℤ, pos, negsuc, ◌+◌, ◌-◌, ◌%◌, ◌<◌, ◌≤◌, Bool, true, false, not, List, [], ◌∷◌, ◌++◌, length, refl, ap, subst, arith}
 use Rattle.std.specs.Prelude.{nat_lt, slice_index}
 use Rattle.std.specs.Int.{w16, cast_unsigned}
 use Rattle.std.proofs.lemmas.Bool.{cond_both, ltb-false, ltb-true}
@@ -15,14 +15,12 @@ use Rattle.avr_machine.specs.Write.{after}
 use Rattle.mote_layout.specs.Memory.{bank_words, domain_count}
 use Rattle.unit_code.specs.Lengths.{instruction_length, spelled_length}
 use Rattle.unit_code.specs.Spelled.{offset_to}
-use Rattle.unit_code.specs.Spelling.{form_of, start_of}
+use Rattle.unit_code.specs.Spelling.{form_of}
 use Rattle.unit_code.specs.Templates.{branch, template}
 use Rattle.unit_code.specs.declared.unit.Shape.{Shape}
 use Rattle.unit_code.specs.declared.unit.Shape.TheVariants.{Long, Short}
-use Rattle.unit_code.specs.declared.unit.Unit.{Unit}
 use Rattle.unit_code.specs.declared.unit.Unit.TheVariants.{Branch, Jump}
 use Rattle.domain_model.specs.declared.handler.Running.{Running}
-use Rattle.domain_model.specs.Bytes.{AreBytes}
 use Rattle.domain_model.specs.State.{KernelState, Processor, at_counter}
 use Rattle.domain_model.specs.Act.{act_branch, act_unit, goes_to, taken}
 use Rattle.word_run.specs.FlashValue.{FlashValue, part, words_of, starts_of, address_in, entry_point}

@@ -1,10 +1,10 @@
 -- Kernel calls: none looks at a dead byte of the stack.
-use Rattle.std.proofs.Common.{◌≡◌, ◌∙◌, ℕ, ◌+◌, ◌-◌, ◌*◌, ◌<◌, ◌≤◌, ◌==◌, Bool, true, false, List, [], ◌∷◌, ◌++◌, length, take, drop, Option, None, Some, refl, sym, ap, subst, arith}
+use Rattle.std.proofs.Common.{◌≡◌, ◌∙◌, ℕ, ◌+◌, ◌-◌, ◌*◌, ◌<◌, ◌≤◌, ◌==◌, Bool, true, false, List, [], ◌∷◌, length, take, drop, Option, None, Some, refl, sym, ap, subst, arith}
 use Rattle.std.specs.Prelude.{nat_le, nat_lt, slice_index}
 use Rattle.std.proofs.lemmas.List.{append-nil, ext_get_or, get_or-drop, get_or-take, length-drop, length-take-le}
 use Rattle.avr_machine.specs.Processor.{lowered}
 use Rattle.mote_base.specs.Messages.{list_of, queue_limit}
-use Rattle.mote_layout.specs.Memory.{block_bytes, block_count, heap_start, ram_bytes, ram_start, red_zone_start}
+use Rattle.mote_layout.specs.Memory.{block_bytes, heap_start, ram_bytes, ram_start, red_zone_start}
 use Rattle.mote_layout.specs.Limits.{payload_limit}
 use Rattle.mote_layout.specs.Blocks.{AreBlocks}
 use Rattle.mote_layout.specs.Fit.{blocks_for}
@@ -13,24 +13,22 @@ use Rattle.mote_layout.specs.Requests.{address_for, holds}
 use Rattle.mote_layout.specs.declared.page.Entry.TheVariants.{Kernel}
 use Rattle.mote_layout.proofs.Beginnings.{begins_at}
 use Rattle.unit_code.specs.declared.unit.Unit.TheVariants.{KernelCall}
-use Rattle.domain_model.specs.declared.fault.FaultNote.{FaultNote}
 use Rattle.domain_model.specs.declared.fault.Served.{Served}
 use Rattle.domain_model.specs.declared.fault.Served.TheVariants as served
 use Rattle.domain_model.specs.declared.fault.UnitEnd.TheVariants.{Fault}
 use Rattle.domain_model.specs.declared.handler.Running.{Running}
-use Rattle.domain_model.specs.declared.line.TraceLine.{TraceLine}
 use Rattle.domain_model.specs.declared.line.TraceLine.TheVariants as line
-use Rattle.domain_model.specs.State.{Message, Loaded, KernelState, bytes_at, pair, register, with_processor}
+use Rattle.domain_model.specs.State.{Message, Loaded, KernelState, pair, register}
 use Rattle.domain_model.specs.Services.{Service, Malloc, Free, ChangeOwn, PostShort, PostLong, Take, TimerStart, TimerStop, Say, Clock, Send, MyId, service_of}
 use Rattle.domain_model.specs.Modules.{id_at, is_loaded, module_named}
 use Rattle.domain_model.specs.Given.{given_at}
 use Rattle.domain_model.specs.Payloads.{holds_bytes}
-use Rattle.domain_model.specs.Calls.{Serving, answered, change_held, changed_to, comes_back, free_held, long_held, long_message_of, long_to, long_where, malloc_given, message_of, payload_taken, post_to, post_where, send_held, send_within, serve, take_by, take_hand}
-use Rattle.domain_model.specs.Act.{act_served, act_unit, goes_on, goes_to}
+use Rattle.domain_model.specs.Calls.{Serving, change_held, changed_to, comes_back, free_held, long_held, long_message_of, long_to, long_where, malloc_given, message_of, payload_taken, post_to, post_where, send_held, send_within, serve, take_by, take_hand}
+use Rattle.domain_model.specs.Act.{act_served, act_unit}
 use Rattle.domain_model.specs.Free.{with_memory}
 use Rattle.domain_model.specs.Runners.{without_ran}
 use Rattle.domain_model.proofs.BlockLaws.{bytes_held, holds_bytes-true, is_placed}
-use Rattle.word_run.specs.FlashValue.{FlashValue, part, starts_of, address_in, entry_point}
+use Rattle.word_run.specs.FlashValue.{FlashValue, part, starts_of, entry_point}
 use Rattle.word_run.specs.Entries.{Ends, Goes, Reached, call_served, served_way}
 use Rattle.word_run.proofs.Guarded.{back_in, back_processor, behind_call, call_but, called_entry, in_stack, on_stack}
 use Rattle.word_run.proofs.Loads.{pushed_other}

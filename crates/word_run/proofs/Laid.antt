@@ -1,16 +1,13 @@
 -- The templates of a bank from any unit on.
-use Rattle.std.proofs.Common.{◌≡◌, ◌∙◌, ℕ, zero, suc, ◌+◌, ◌<◌, ◌≤◌, Bool, List, [], ◌∷◌, ◌++◌, drop, length, get_or, Option, None, Some, refl, sym, ap, subst, arith}
-use Rattle.std.specs.Prelude.{slice_get, slice_index}
+use Rattle.std.proofs.Common.{◌≡◌, ◌∙◌, ℕ, zero, suc, ◌+◌, Bool, List, [], ◌∷◌, ◌++◌, drop, length, get_or, Some, refl, sym, ap, subst, arith}
+use Rattle.std.specs.Prelude.{slice_get}
 use Rattle.std.specs.List.{AllByRecursion}
-use Rattle.std.proofs.lemmas.List.{append-nil}
 use Rattle.avr_isa.specs.declared.instruction.Instr.{Instr}
-use Rattle.unit_code.specs.declared.form.Form.{Form}
 use Rattle.unit_code.specs.declared.unit.Shape.{Shape}
 use Rattle.unit_code.specs.declared.unit.Unit.{Unit}
 use Rattle.unit_code.specs.Beside.{StandBy, Stands, form_words, words_in}
 use Rattle.unit_code.specs.Lengths.{instruction_length, spelled_length}
 use Rattle.unit_code.specs.Proper.{IsOfKind}
-use Rattle.unit_code.specs.Spelled.{BeginWith}
 use Rattle.unit_code.specs.Spelling.{Lays, form_of, forms_from, start_of, starts_after}
 use Rattle.unit_code.specs.Templates.{template}
 use Rattle.harbor_spell.proofs.Lengths.{form_length}

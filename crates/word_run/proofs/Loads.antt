@@ -1,5 +1,5 @@
 -- Checked loads behind their guards.
-use Rattle.std.proofs.Common.{◌≡◌, ◌≢◌, ◌∙◌, ℕ, ◌+◌, ◌-◌, ◌<◌, ◌≤◌, ◌==◌, ◌&&◌, ◌||◌, ◌⊎◌, cond, Bool, true, false, List, [], ◌∷◌, length, Option, Some, Ok, refl, sym, ap, subst, arith, inl, inr}
+use Rattle.std.proofs.Common.{◌≡◌, ◌≢◌, ◌∙◌, ℕ, ◌+◌, ◌-◌, ◌<◌, ◌≤◌, ◌==◌, ◌&&◌, ◌||◌, ◌⊎◌, cond, Bool, true, false, List, [], ◌∷◌, length, Ok, refl, sym, ap, subst, arith, inl, inr}
 use Rattle.std.specs.Prelude.{nat_le, nat_lt, slice_index, slice_set}
 use Rattle.std.proofs.lemmas.Bool.{and_parts, leb-true, ltb-true, or_cases}
 use Rattle.std.proofs.lemmas.List.{get_or-set_other}
@@ -14,7 +14,7 @@ use Rattle.avr_machine.specs.Processor.{high, low, lowered, raised}
 use Rattle.mote_layout.specs.Blocks.{AreBlocks, AreBlocksFrom, owns}
 use Rattle.mote_layout.specs.Load.{IsConstant, is_constant, is_open}
 use Rattle.mote_layout.specs.Store.{may_store as permits_store}
-use Rattle.mote_layout.specs.Memory.{floor, pointer_x, pointer_y, pointer_z, ram_end, ram_start, red_zone_start, register_count, spl, sph, sreg, stack_top}
+use Rattle.mote_layout.specs.Memory.{pointer_x, pointer_y, pointer_z, ram_end, ram_start, red_zone_start, register_count, spl, sph, sreg}
 use Rattle.mote_layout.specs.declared.page.Entry.TheVariants as entry
 use Rattle.mote_layout.specs.declared.segment.Segment.{Segment}
 use Rattle.mote_layout.proofs.Loads.{is_constant-true, is_open-true}
@@ -38,7 +38,7 @@ use Rattle.word_run.specs.FlashValue.{FlashValue, part, words_of, starts_of}
 use Rattle.word_run.specs.Entries.{guarded, load_guarded}
 use Rattle.word_run.specs.CanRun.{IsOnStack}
 use Rattle.word_run.proofs.Fetched.{fetched_address, fetches, stand_behind}
-use Rattle.word_run.proofs.Guarded.{IsGuardedBy, back_processor, behind_call, call_but, called_entry, guarded_unit, in_stack}
+use Rattle.word_run.proofs.Guarded.{back_processor, behind_call, call_but, called_entry, guarded_unit, in_stack}
 use Rattle.word_run.proofs.Moves.{Row, pushed_by}
 use Rattle.word_run.proofs.PlainUnits.{none_named, plain_inside, plain_names_none}
 use Rattle.word_run.proofs.Same.{IsBut, Meets, dead_free, free_of, same_but}

@@ -1,16 +1,15 @@
 -- Single instructions of templates: those that lead on, and the CALL of an entry.
-use Rattle.std.proofs.Common.{◌≡◌, ◌∙◌, ℕ, ◌+◌, ◌-◌, ◌%◌, ◌<◌, ◌≤◌, ◌==◌, ◌||◌, IsTrue, List, [], ◌∷◌, length, Option, Some, refl, sym, ap, subst, arith, inl, inr}
+use Rattle.std.proofs.Common.{◌≡◌, ◌∙◌, ℕ, ◌+◌, ◌-◌, ◌%◌, ◌≤◌, ◌==◌, ◌||◌, IsTrue, List, ◌∷◌, length, Some, refl, sym, subst, arith, inl, inr}
 use Rattle.avr_isa.specs.declared.instruction.Instr.{Instr}
 use Rattle.avr_isa.specs.declared.instruction.Instr.TheVariants.{Cpse, Sbrc, Sbrs, Rjmp, Jmp, Rcall, Call, Ret, Brbs, Brbc, Out}
 use Rattle.avr_machine.specs.Processor.{Processor as CountingProcessor, lowered}
 use Rattle.avr_machine.specs.Conditions.{IsRunnable, IsSkip, IsStraight, StoresInside}
-use Rattle.avr_machine.specs.DataRead.{IsInMemory}
 use Rattle.avr_machine.specs.Effect.{effect, writes}
 use Rattle.avr_machine.specs.Flash.{Banks}
-use Rattle.avr_machine.specs.Laws.{HasRoom, after_call, with_pushed}
-use Rattle.avr_machine.specs.Step.{CanRun as CanRunOne, following}
+use Rattle.avr_machine.specs.Laws.{after_call, with_pushed}
+use Rattle.avr_machine.specs.Step.{CanRun as CanRunOne}
 use Rattle.avr_machine.proofs.EffectLaws.{call_pushes, ret_gives_back, straight_leaves_pc}
-use Rattle.mote_layout.specs.Memory.{floor, ram_bytes, ram_end, ram_start, red_zone_start, spl_port, sph_port, sreg_port, stack_top}
+use Rattle.mote_layout.specs.Memory.{floor, ram_bytes, red_zone_start, spl_port, sph_port, sreg_port, stack_top}
 use Rattle.mote_layout.specs.Page.{StandsAt}
 use Rattle.mote_layout.specs.declared.page.Entry.{Entry}
 use Rattle.unit_code.specs.Lengths.{instruction_length}
@@ -109,7 +108,7 @@ call_names may a n over b p h first second w =
     let down : lowered p.sp ≡ p.sp - 1 = omega (arith, low, high) in
     elim w [
       | inl one ↦ subst may one first
-      | inr rest ↦ elim rest [ | inl two ↦ subst may (sym down ∙ two) second | inr none ↦ absurd none ]
+      | inr rest ↦ elim rest [ inl two ↦ subst may (sym down ∙ two) second | inr none ↦ absurd none ]
     ]
 
 -- The CALL of an entry.

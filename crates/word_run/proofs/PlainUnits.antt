@@ -1,5 +1,5 @@
 -- Units of one instruction that needs nothing, and writes no byte.
-use Rattle.std.proofs.Common.{◌≡◌, ℕ, ◌+◌, ◌<◌, List, [], ◌∷◌, length, Some, refl, rules}
+use Rattle.std.proofs.Common.{ℕ, ◌+◌, ◌<◌, List, [], ◌∷◌, length, rules}
 use Rattle.avr_isa.specs.declared.instruction.Instr.{Instr}
 use Rattle.avr_isa.specs.declared.instruction.Instr.TheVariants.{Call, Rcall, StXInc, StXDec, StYInc, StYDec, StZInc, StZDec}
 use Rattle.avr_machine.specs.Conditions.{AreInside, StoresInside}

@@ -1,11 +1,11 @@
 -- Pushes and pops behind their guards.
-use Rattle.std.proofs.Common.{◌≡◌, ◌≢◌, ◌∙◌, ℕ, ◌+◌, ◌-◌, ◌<◌, ◌≤◌, Bool, true, List, [], ◌∷◌, length, Some, refl, sym, ap, subst, arith, inl, inr}
+use Rattle.std.proofs.Common.{◌≡◌, ◌≢◌, ◌∙◌, ℕ, ◌+◌, ◌-◌, ◌<◌, ◌≤◌, Bool, true, List, length, refl, sym, ap, subst, arith, inl, inr}
 use Rattle.std.specs.Prelude.{slice_index, slice_set, nat_lt}
 use Rattle.std.proofs.lemmas.Bool.{ltb-true}
 use Rattle.std.proofs.lemmas.List.{get_or-set_other, set-set, set_comm}
 use Rattle.avr_isa.specs.declared.instruction.Instr.TheVariants as instr
 use Rattle.avr_machine.specs.Conditions.{IsStraight, StoresInside}
-use Rattle.avr_machine.specs.DataRead.{IsInMemory, data_read}
+use Rattle.avr_machine.specs.DataRead.{IsInMemory}
 use Rattle.avr_machine.specs.Effect.{popped, popping, writes}
 use Rattle.avr_machine.specs.Laws.{with_pushed}
 use Rattle.avr_machine.specs.Processor.{high, low, lowered, raised}
@@ -15,14 +15,13 @@ use Rattle.mote_layout.specs.declared.page.Entry.TheVariants.{PopGuard, PushGuar
 use Rattle.unit_code.specs.declared.unit.Unit.TheVariants.{Pop, Push}
 use Rattle.domain_model.specs.declared.fault.Rule.TheVariants as rule
 use Rattle.domain_model.specs.declared.handler.Running.{Running}
-use Rattle.domain_model.specs.State.{KernelState, Processor, at_counter, register, with_processor}
+use Rattle.domain_model.specs.State.{KernelState, Processor, at_counter, with_processor}
 use Rattle.domain_model.specs.Act.{act_effect, act_unit, plain_effect}
 use Rattle.domain_model.specs.Free.{SameKernel}
-use Rattle.domain_model.proofs.ByteLists.{bytes_set, high_byte, low_byte}
+use Rattle.domain_model.proofs.ByteLists.{bytes_set, high_byte}
 use Rattle.word_run.specs.FlashValue.{FlashValue, part, starts_of}
 use Rattle.word_run.specs.Writing.{Names}
-use Rattle.word_run.proofs.Guarded.{IsGuardedBy, back_in, back_processor, back_small, behind_call, call_but, called_entry, guarded_unit, in_stack}
-use Rattle.word_run.proofs.Moves.{pushed_by}
+use Rattle.word_run.proofs.Guarded.{back_processor, back_small, behind_call, call_but, called_entry, guarded_unit, in_stack}
 use Rattle.word_run.proofs.Same.{IsBut, Meets, but_itself, but_set, dead_free, free_of, same_but}
 use Rattle.word_run.proofs.Setting.{Setting, laid}
 
@@ -44,7 +43,7 @@ pop_inside d p c = tt
 
 push_names : (may : ℕ → Type 0) (r : ℕ) (p : Processor) (a over c : ℕ) → may p.sp → Names a (writes (instr.Push r) over (at_counter p c)) → may a
 unfolding writes
-push_names may r p a over c at w = elim w [ | inl one ↦ subst may one at | inr none ↦ absurd none ]
+push_names may r p a over c at w = elim w [ inl one ↦ subst may one at | inr none ↦ absurd none ]
 
 pop_names : (may : ℕ → Type 0) (d : ℕ) (p : Processor) (a over c : ℕ) → Names a (writes (instr.Pop d) over (at_counter p c)) → may a
 unfolding writes

@@ -1,5 +1,5 @@
 -- Outcomes that are the same but for free bytes.
-use Rattle.std.proofs.Common.{◌≡◌, ◌∙◌, ℕ, ◌+◌, ◌-◌, ◌<◌, ◌≤◌, ◌^◌, Bool, true, false, List, [], length, get_or, refl, sym, ap, subst, arith, inl, inr}
+use Rattle.std.proofs.Common.{◌≡◌, ◌∙◌, ℕ, ◌+◌, ◌-◌, ◌<◌, ◌≤◌, Bool, true, false, List, [], length, refl, sym, ap, subst, arith, inl, inr}
 use Rattle.std.specs.Prelude.{slice_index, slice_set, ◌&&◌, ◌||◌, nat_le}
 use Rattle.std.proofs.lemmas.Bool.{cases_eq, cases_lt, true≢false, le-leb, and_from}
 use Rattle.std.proofs.lemmas.List.{get_or-set_other, get_or-set_same, get_or_past, length-set}
@@ -10,7 +10,7 @@ use Rattle.domain_model.specs.declared.fault.FaultNote.{FaultNote}
 use Rattle.domain_model.specs.declared.fault.UnitEnd.TheVariants.{Fault}
 use Rattle.domain_model.specs.declared.handler.Running.{Running}
 use Rattle.domain_model.specs.Bytes.{AreBytes}
-use Rattle.domain_model.specs.State.{KernelState, Processor, with_processor}
+use Rattle.domain_model.specs.State.{KernelState}
 use Rattle.domain_model.specs.Act.{Acted}
 use Rattle.domain_model.specs.Free.{SameBut, SameKernel, is_dead, is_kernel_byte, dead_top, with_memory}
 use Rattle.domain_model.specs.Runners.{unit_by}

@@ -1,18 +1,16 @@
 -- A unit whose words are about to run, and where control lands behind it.
-use Rattle.std.proofs.Common.{◌≡◌, ◌∙◌, ℕ, zero, suc, ◌+◌, ◌-◌, ◌<◌, ◌≤◌, Bool, true, List, [], ◌∷◌, ◌++◌, drop, length, length-drop, get_or, Option, None, Some, refl, sym, ap, subst, arith, inl, inr}
-use Rattle.std.specs.Prelude.{slice_get, slice_index, slice_index_or}
+use Rattle.std.proofs.Common.{◌≡◌, ◌∙◌, ℕ, zero, suc, ◌+◌, ◌-◌, ◌<◌, ◌≤◌, Bool, true, List, [], ◌∷◌, ◌++◌, length, length-drop, get_or, None, Some, refl, sym, ap, arith, inl, inr}
+use Rattle.std.specs.Prelude.{slice_get, slice_index}
 use Rattle.std.specs.List.{AllByRecursion}
 use Rattle.std.proofs.lemmas.Bool.{cases_lt}
 use Rattle.std.proofs.lemmas.List.{get_or-drop}
 use Rattle.avr_isa.specs.declared.instruction.Instr.{Instr}
-use Rattle.mote_layout.specs.Memory.{bank_start, bank_words, domain_count, floor, ram_bytes, stack_top}
-use Rattle.unit_code.specs.Beside.{words_in}
-use Rattle.unit_code.specs.Lengths.{instruction_length, spelled_length}
+use Rattle.mote_layout.specs.Memory.{bank_start, bank_words, domain_count, floor, stack_top}
+use Rattle.unit_code.specs.Lengths.{spelled_length}
 use Rattle.unit_code.specs.Proper.{IsOfKind}
 use Rattle.unit_code.specs.Spelling.{Lays, form_of, start_of, starts_after}
 use Rattle.unit_code.specs.Targets.{AreFirstWords, number_of}
-use Rattle.unit_code.specs.Templates.{IsForm, template}
-use Rattle.unit_code.specs.declared.form.Form.{Form}
+use Rattle.unit_code.specs.Templates.{template}
 use Rattle.unit_code.specs.declared.unit.Shape.{Shape}
 use Rattle.unit_code.specs.declared.unit.Unit.{Unit}
 use Rattle.unit_code.proofs.Numbers.{number_of-at, number_of-none}
@@ -27,7 +25,7 @@ use Rattle.domain_model.proofs.Kept.{each_contained}
 use Rattle.domain_model.proofs.ModuleLaws.{found}
 use Rattle.word_run.specs.FlashValue.{FlashValue, HoldsWords, part, words_of, starts_of, address_in, entry_point, unit_at}
 use Rattle.word_run.proofs.Fetched.{Stand, stand_within}
-use Rattle.word_run.proofs.Laid.{AreLaid, IsLaid, NthLaid, first_laid, nth_laid, starts_counted}
+use Rattle.word_run.proofs.Laid.{IsLaid, NthLaid, first_laid, nth_laid, starts_counted}
 use Rattle.word_run.proofs.Steps.{InBank}
 
 -- a domain that is in use is one

@@ -1,6 +1,6 @@
 -- Skips.
-use Rattle.std.proofs.Common.{◌≡◌, ◌∙◌, ℕ, zero, suc, pos, ◌+◌, ◌%◌, ◌<◌, ◌≤◌, Bool, true, false, List, [], ◌∷◌, ◌++◌, drop, length, length-drop, get_or, Option, Some, Ok, refl, sym, ap, subst, arith, inl, inr}
-use Rattle.std.specs.Prelude.{slice_get, slice_index, IsOk}
+use Rattle.std.proofs.Common.{◌≡◌, ◌∙◌, ℕ, zero, suc, pos, ◌+◌, ◌%◌, ◌<◌, ◌≤◌, Bool, true, false, List, [], ◌∷◌, ◌++◌, drop, length, length-drop, get_or, Ok, refl, sym, ap, subst, arith}
+use Rattle.std.specs.Prelude.{slice_get, slice_index}
 use Rattle.std.proofs.lemmas.List.{get_or-drop}
 use Rattle.avr_isa.specs.declared.instruction.Instr.{Instr}
 use Rattle.avr_isa.specs.declared.instruction.Instr.TheVariants as instr
@@ -9,8 +9,8 @@ use Rattle.avr_machine.specs.Effect.{effect, writes}
 use Rattle.avr_machine.specs.Flash.{Banks}
 use Rattle.avr_machine.specs.Processor.{Processor as CountingProcessor}
 use Rattle.avr_machine.specs.Step.{CanRun as CanRunOne, fetched, following}
-use Rattle.mote_layout.specs.Memory.{bank_words, domain_count}
-use Rattle.unit_code.specs.Beside.{BeginsWithSeveral, IsReadSo, form_words, words_in}
+use Rattle.mote_layout.specs.Memory.{bank_words}
+use Rattle.unit_code.specs.Beside.{form_words, words_in}
 use Rattle.unit_code.specs.Lengths.{instruction_length, spelled_length}
 use Rattle.unit_code.specs.Proper.{IsOfKind}
 use Rattle.unit_code.specs.Spelled.{offset_to}
@@ -29,12 +29,12 @@ use Rattle.domain_model.specs.Act.{act_skip, act_unit, bank, goes_to, passes}
 use Rattle.domain_model.specs.Laws.{skipped}
 use Rattle.domain_model.proofs.InstructionLaws.{skip_is_skip, skips_pass_as_instructions}
 use Rattle.domain_model.proofs.Kept.{each_at}
-use Rattle.word_run.specs.FlashValue.{FlashValue, part, words_of, starts_of, address_in, entry_point, unit_at}
+use Rattle.word_run.specs.FlashValue.{FlashValue, part, words_of, starts_of, address_in, entry_point}
 use Rattle.word_run.specs.Entries.{going}
 use Rattle.word_run.specs.Writing.{Names}
 use Rattle.word_run.proofs.Fetched.{Stand, fetches, follows, one_word_at_least, stand_behind, stand_within}
 use Rattle.word_run.proofs.Jumps.{jump_step, reaches, reaches_over, where_inside, where_names}
-use Rattle.word_run.proofs.Laid.{AreLaid, IsLaid, first_laid, others_laid}
+use Rattle.word_run.proofs.Laid.{IsLaid, first_laid, others_laid}
 use Rattle.word_run.proofs.Same.{Meets, all_met}
 use Rattle.word_run.proofs.Setting.{Setting, laid, lands, lands_inside, lands_next, next_start, start, start_below}
 use Rattle.word_run.proofs.Steps.{InBank, Leads, Steps, continues, ends, goes, turned}
@@ -223,7 +223,6 @@ module _ (may : ℕ → Type 0) (v : FlashValue) (run : Running) (k : KernelStat
       let long : form_words f ≡ spelled_length y r = form_length starts (v.unit + 1) (start_of starts (v.unit + 1)) y r kind in
       let at : slice_index starts (v.unit + 2) ≡ start v run + 1 + spelled_length y r
       = sym (get_or-drop v.unit starts 2 0) ∙ ap (λ z. get_or z 2 0) starts_are ∙ second_by (start v run) (start v run + 1) y us r ss m.shaped some in
-      
       one_of words (start v run) (slice_index starts (v.unit + 2)) i f l.behind l.others.0 (template f) refl m.form.kind l.others.1.words
       (λ g others form many e. l.form.read.1 (g, others, form, many, e)) l.stand (omega (arith, at, long))
 

@@ -1,6 +1,6 @@
 -- A run of words, one instruction at a time.
-use Rattle.std.proofs.Common.{◌≡◌, ◌∙◌, ℕ, zero, suc, ◌+◌, ◌%◌, ◌<◌, ◌≤◌, Bool, true, false, List, [], ◌∷◌, ◌++◌, length, Option, None, Some, Result, Ok, refl, sym, ap, subst, arith, inl, inr}
-use Rattle.std.specs.Prelude.{nat_le, ⊤}
+use Rattle.std.proofs.Common.{◌≡◌, ◌∙◌, ℕ, suc, ◌+◌, ◌%◌, ◌<◌, ◌≤◌, Bool, true, false, List, [], ◌∷◌, ◌++◌, length, Option, None, Some, Result, Ok, refl, sym, ap, subst, arith, inl, inr}
+use Rattle.std.specs.Prelude.{nat_le}
 use Rattle.std.proofs.lemmas.Bool.Decides.{nat_tests}
 use Rattle.std.proofs.lemmas.List.Elements.{filter-append}
 use Rattle.avr_isa.specs.declared.instruction.Instr.{Instr}
@@ -12,7 +12,7 @@ use Rattle.avr_machine.specs.Step.{advanced, fetched, following, CanRun as CanRu
 use Rattle.mote_layout.specs.Memory.{bank_words, domain_count}
 use Rattle.mote_layout.specs.Page.{page_start, entry_at, StandsAt}
 use Rattle.mote_layout.specs.declared.page.Entry.{Entry}
-use Rattle.mote_layout.specs.declared.page.Entry.TheVariants.{StoreX, StoreY, StoreZ, LoadY, LoadZ, Kernel, Slot}
+use Rattle.mote_layout.specs.declared.page.Entry.TheVariants.{StoreY, StoreZ, LoadY, LoadZ, Kernel, Slot}
 use Rattle.mote_layout.proofs.EntryPage.{entry_at-some}
 use Rattle.unit_code.specs.Lengths.{instruction_length}
 use Rattle.domain_model.specs.declared.fault.FaultNote.{FaultNote}
@@ -22,10 +22,10 @@ use Rattle.domain_model.specs.declared.handler.Running.{Running}
 use Rattle.domain_model.specs.declared.line.TraceLine.{TraceLine}
 use Rattle.domain_model.specs.State.{KernelState, at_counter, without_counter, with_processor}
 use Rattle.domain_model.specs.Act.{Acted, goes_to}
-use Rattle.domain_model.specs.Runners.{is_ran, without_ran, unit_by}
+use Rattle.domain_model.specs.Runners.{without_ran, unit_by}
 use Rattle.word_run.specs.FlashValue.{FlashValue, part, words_of, address_in, unit_at}
-use Rattle.word_run.specs.Entries.{Way, Goes, Ends, Reached, going, entry_row}
-use Rattle.word_run.specs.WordRun.{WordsActed, after_found, after_one, arrived, at_entry, behind, begun_lines, goes_by, goes_from, goes_in, goes_on, lands_on, one_step, ran_lines, run_from}
+use Rattle.word_run.specs.Entries.{Goes, Ends, Reached, going, entry_row}
+use Rattle.word_run.specs.WordRun.{WordsActed, after_found, after_one, arrived, at_entry, behind, goes_from, goes_in, goes_on, one_step, ran_lines, run_from}
 use Rattle.word_run.specs.CanRun.{CanRun, CanStepAt, CanArrive, CanEnter, CanEnterAt, CanGoBy, CanGoFrom, CanGoIn}
 use Rattle.word_run.specs.Writing.{Names, InstructionWrites, EntryWrites, ArrivalWrites, GuardWrites, StepWrites, Writes, WritesBy, WritesFrom, WritesIn}
 use Rattle.word_run.proofs.Fetched.{Stand, fetches, stand_within, one_word_at_least}

@@ -1,6 +1,6 @@
 -- Stores behind their guards.
-use Rattle.std.proofs.Common.{◌≡◌, ◌∙◌, ℕ, ◌+◌, ◌-◌, ◌<◌, ◌≤◌, ◌⊎◌, Bool, true, false, List, [], ◌∷◌, length, Option, Some, Ok, refl, sym, ap, subst, arith, inl, inr}
-use Rattle.std.specs.Prelude.{slice_index, slice_set, T}
+use Rattle.std.proofs.Common.{◌≡◌, ◌∙◌, ℕ, ◌+◌, ◌-◌, ◌<◌, ◌≤◌, ◌⊎◌, Bool, true, List, ◌∷◌, length, Some, Ok, refl, sym, ap, subst, arith, inl, inr}
+use Rattle.std.specs.Prelude.{slice_set}
 use Rattle.avr_isa.specs.Operands.{IsEncodable}
 use Rattle.avr_isa.specs.declared.instruction.Instr.{Instr}
 use Rattle.avr_isa.specs.declared.instruction.Instr.TheVariants.{StX, StXInc, StXDec, StdY, StYInc, StYDec, StdZ, StZInc, StZDec, Sts, LddY, LddZ}
@@ -9,7 +9,7 @@ use Rattle.avr_machine.specs.DataRead.{IsInMemory}
 use Rattle.avr_machine.specs.Effect.{writes}
 use Rattle.avr_machine.specs.Flash.{word_at}
 use Rattle.avr_machine.specs.Modes.{moved_register, store_address as stored_by_mode}
-use Rattle.avr_machine.specs.Processor.{Processor as CountingProcessor, raised}
+use Rattle.avr_machine.specs.Processor.{raised}
 use Rattle.avr_machine.proofs.EffectLaws.{stores_go_by_mode}
 use Rattle.mote_layout.specs.Memory.{ram_start, red_zone_start}
 use Rattle.mote_layout.specs.declared.page.Entry.TheVariants as entry
@@ -22,18 +22,18 @@ use Rattle.domain_model.specs.declared.fault.Rule.TheVariants as rule
 use Rattle.domain_model.specs.declared.handler.Running.{Running}
 use Rattle.domain_model.specs.State.{KernelState, Processor, at_counter, register, with_processor}
 use Rattle.domain_model.specs.Act.{act_effect, act_unit, may_store, plain_effect, store_address}
-use Rattle.domain_model.specs.Free.{SameKernel, with_memory}
+use Rattle.domain_model.specs.Free.{SameKernel}
 use Rattle.domain_model.specs.Good.{GoodMachine}
 use Rattle.domain_model.proofs.ActLaws.{store_in_memory}
 use Rattle.domain_model.proofs.ByteLists.{good_bytes}
 use Rattle.domain_model.proofs.InstructionLaws.{store_is_straight}
 use Rattle.domain_model.proofs.WriteLaws.{store_keeps}
-use Rattle.word_run.specs.FlashValue.{FlashValue, part, words_of, starts_of, address_in}
+use Rattle.word_run.specs.FlashValue.{FlashValue, part, words_of, starts_of}
 use Rattle.word_run.specs.Entries.{guarded, store_guarded}
 use Rattle.word_run.specs.CanRun.{IsOnStack}
 use Rattle.word_run.specs.Writing.{Names}
 use Rattle.word_run.proofs.Fetched.{fetched_address, fetches, stand_behind}
-use Rattle.word_run.proofs.Guarded.{IsGuardedBy, back_in, back_processor, behind_call, call_but, called_entry, guarded_unit, in_stack}
+use Rattle.word_run.proofs.Guarded.{back_processor, behind_call, call_but, called_entry, guarded_unit, in_stack}
 use Rattle.word_run.proofs.Moves.{Row, pushed_by}
 use Rattle.word_run.proofs.Same.{IsBut, Meets, both_set, dead_free, free_of, same_but}
 use Rattle.word_run.proofs.SecondWords.{IsAddressed}

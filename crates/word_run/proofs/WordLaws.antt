@@ -1,5 +1,5 @@
 -- Words that spell units run as the units do.
-use Rattle.std.proofs.Common.{◌≡◌, ◌∙◌, ℕ, ◌+◌, ◌<◌, ◌≤◌, ◌⊎◌, Bool, true, List, [], length, Option, None, Some, refl, sym, ap, subst, arith, inl, inr}
+use Rattle.std.proofs.Common.{◌≡◌, ◌∙◌, ℕ, ◌+◌, ◌<◌, ◌≤◌, ◌⊎◌, true, length, Option, None, Some, refl, sym, ap, subst, arith, inl, inr}
 use Rattle.std.specs.Prelude.{IsSome}
 use Rattle.mote_layout.specs.Memory.{red_zone_start}
 use Rattle.unit_code.specs.declared.unit.Unit.{Unit}
@@ -8,8 +8,8 @@ use Rattle.domain_model.specs.declared.fault.FaultNote.{FaultNote}
 use Rattle.domain_model.specs.declared.fault.UnitEnd.TheVariants.{Fault}
 use Rattle.domain_model.specs.declared.handler.Running.{Running}
 use Rattle.domain_model.specs.Bytes.{AreBytes}
-use Rattle.domain_model.specs.State.{KernelState, RunnerState}
-use Rattle.domain_model.specs.Act.{Acted, act, act_at, act_running, act_unit, bank, may_store, next_unit, store_address}
+use Rattle.domain_model.specs.State.{KernelState}
+use Rattle.domain_model.specs.Act.{Acted, act, act_at, act_running, act_unit, bank, next_unit}
 use Rattle.domain_model.specs.Free.{UnitStep, enters_kernel}
 use Rattle.domain_model.specs.Good.{GoodMachine}
 use Rattle.domain_model.specs.Runners.{unit_by, without_ran}
@@ -18,8 +18,8 @@ use Rattle.domain_model.proofs.RanLaws.{act_without_ran}
 use Rattle.domain_model.proofs.UnitsKept.{act_good}
 use Rattle.word_run.specs.FlashValue.{FlashValue, HoldsWords, part, starts_of, entry_point}
 use Rattle.word_run.specs.Entries.{Ends, Way}
-use Rattle.word_run.specs.WordRun.{instruction_limit, one_step, run_from, words_by}
-use Rattle.word_run.specs.Writing.{GuardWrites, InstructionWrites, StepWrites, UnitWrites, Writes, WritesBy}
+use Rattle.word_run.specs.WordRun.{one_step, words_by}
+use Rattle.word_run.specs.Writing.{UnitWrites, Writes, WritesBy}
 use Rattle.word_run.specs.Laws.{BeginsWithCall, FaultsComeFirst, FewInstructionsSuffice, IsBelowStack, IsStoredTo, WordsRunAsUnits, WritesLieInside}
 use Rattle.word_run.proofs.FirstWrites.{first_writes, guard_clears_none}
 use Rattle.word_run.proofs.Frames.{indirect_unit, local_unit, reserve_unit, return_unit, slot_unit}
@@ -29,7 +29,7 @@ use Rattle.word_run.proofs.KernelCalls.{kernel_unit}
 use Rattle.word_run.proofs.Loads.{load_unit}
 use Rattle.word_run.proofs.PlainUnits.{plain_unit}
 use Rattle.word_run.proofs.PushPop.{pop_unit, push_unit}
-use Rattle.word_run.proofs.Same.{Meets, SameActed, free_of}
+use Rattle.word_run.proofs.Same.{Meets}
 use Rattle.word_run.proofs.Setting.{Setting, setting, there}
 use Rattle.word_run.proofs.Skips.{skip_unit}
 use Rattle.word_run.proofs.Stores.{store_unit}

@@ -1,9 +1,8 @@
 -- Bytes that become 0 in memories that are the same but for free bytes.
-use Rattle.std.proofs.Common.{◌≡◌, ◌∙◌, ℕ, ◌+◌, ◌-◌, ◌<◌, ◌≤◌, Bool, false, List, ◌++◌, length, replicate, take, drop, get_or, refl, sym, ap, arith, inl, inr}
+use Rattle.std.proofs.Common.{◌≡◌, ◌∙◌, ℕ, ◌+◌, ◌-◌, ◌<◌, ◌≤◌, Bool, List, ◌++◌, length, replicate, take, drop, get_or, sym, ap, arith, inl, inr}
 use Rattle.std.specs.Prelude.{slice_index}
 use Rattle.std.proofs.lemmas.Bool.{cases_lt}
 use Rattle.std.proofs.lemmas.List.{get_or-append_right, get_or-drop, get_or-replicate, get_or-take, get_or_append_left, length-replicate, length-take-le}
-use Rattle.mote_layout.specs.Memory.{ram_start}
 use Rattle.domain_model.specs.State.{with_zeros}
 use Rattle.domain_model.proofs.BlockLaws.{zeros_length}
 use Rattle.domain_model.proofs.ByteLists.{zeros_bytes}
