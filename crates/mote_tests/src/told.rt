@@ -20,6 +20,32 @@ $ run --words s strays
 $ run --words --units 1 s says
 0 load 1 0 0000;0 run 1 0 0;w 4000 e481 10ff 00;1 end budget
 
+# Module 1 has a unit of each kind but a load. Its short forms: a skip over an instruction, a branch. Its long ones: a skip over a guarded push,
+# a branch before a jump.
+@ kinds image 1 state 8 subscribes 9/0/iv00 code E005 01DC 930C 930F 911F D000 900F 900F FD00 0000 FF00 930F F409 0000 \
+    F011 C000 D00C B7CD B7DE BFDE BFCD 940E F10B 940E F200 E0E0 EFF2 9509 9508 9508
+$ run --words s kinds
+0 load 1 0 0200;0 run 1 0 0;w 4000 e005 10ff 00;w 4001 01dc 10ff 00
+w 4002 940e 10ff 00;w 4004 930c 10ff 00;w 4005 940e 10ff 00;w 4007 930f 10ff 00
+w 4008 940e 10fe 00;w 400a 911f 10fe 00;w 400b 940e 10ff 00
+w 400d 940e 10fd 00;w 400f 900f 10fd 00;w 4010 940e 10fe 00;w 4012 900f 10fe 00
+w 4013 fd00 10ff 00;w 4014 0000 10ff 00;w 4015 ff00 10ff 00;w 4017 c003 10ff 00
+w 401b f409 10ff 00;w 401d f409 10ff 00;w 401f c000 10ff 00
+w 4020 940e 10ff 00;w 4022 c010 10fd 00;w 4033 940c 10fd 00
+w 4023 b7cd 10ff 00;w 4024 b7de 10ff 00;w 4025 940e 10ff 00;w 4027 bfde 10ff 00;w 4028 bfcd 10ff 00
+w 4029 940e 10ff 00;w 402b 940e 10ff 00;20 unbound 1 0;w 402d e0e0 10ff 00;w 402e eff2 10ff 00
+w 402f 940e 10ff 00;23 unbound 1 0;w 4031 940c 10ff 00;24 done 1;25 end idle
+
+# A load of a sealed module is guarded.
+@ sealed image 1 version 2 flags 2 state 8 code 01DC 911C 9508
+$ run --words s sealed
+0 load 1 0 0200;0 run 1 0 0;w 4000 01dc 10ff 00;w 4001 940e 10ff 00;w 4003 911c 10ff 00;w 4004 940c 10ff 00;2 done 1;3 end idle
+
+# Module 1 says the two bytes below SP after a kernel call: where its CALL would have returned to, in the words that run.
+@ peeks image 1 code 940E F10B 9180 10FF 940E F108 9180 10FE 940E F108 9508
+$ run s peeks
+0 load 1 0 0000;0 run 1 0 0;2 say 1 2;4 say 1 64;5 done 1;6 end idle
+
 # A script that is refused runs nothing.
 @ s lines 5 dump;4 dump
 $3 run --words s says
