@@ -23,7 +23,7 @@ use crate::judging::judge;
 use crate::listing::list;
 use crate::one_line::{put_answer, put_script, put_size};
 use crate::operands::Operands;
-use crate::play::play;
+use crate::playing::play;
 use crate::preparing::prepare;
 use crate::reading::{ReadStop, read_files};
 use crate::request::{Request, request_of};
