@@ -23,7 +23,7 @@ use crate::judging::judge;
 use crate::listing::list;
 use crate::one_line::{put_answer, put_script, put_size};
 use crate::operands::Operands;
-use crate::play::play;
+use crate::playing::play;
 use crate::preparing::prepare;
 use crate::reading::{ReadStop, read_files};
 use crate::request::{Request, request_of};
@@ -179,15 +179,15 @@ fn answer<F: Shelf, K: Sink>(alloc: Global, words: &[Word], shelf: &mut F, out: 
 
 /// Does all that the program does: reads the words, reads the files that they name, and writes the answer.
 ///
-/// The words are those behind the program's name. `run SCRIPT IMAGE..` runs a script over 1 to 64 images, which
-/// it loads and unloads, and writes the trace, with a line for each instruction where `--words` asks for them; `--units N` limits the units of the run, and `--handler H` those of one
-/// handler, beyond which the watchdog stops it. `list IMAGE` writes the units of an image, a line for each.
-/// `upgrade IMAGE` writes the file of an image of the first version in the second, and `seal IMAGE` that of an image
-/// which is neither rewritten nor sealed, sealed. `rewrite IMAGE` writes an original image with each store, stack change
-/// and call of its code checked, and `verify IMAGE` says how many units the words of such an image spell. `asm TEXT` writes
-/// the image of a module's text, and `source IMAGE` the text of an original image. `gen SEED` runs the images and the script
-/// that the seed makes, and writes how many units ran, how many lines of a kind a trace of the run has, and how it ended.
-/// All memory is taken before the first byte is written.
+/// The words are those behind the program's name. `run SCRIPT IMAGE..` runs a script over 1 to 64 images, which it loads
+/// and unloads, and writes the trace. `--units N` limits the units of the run, and `--handler H` those of one handler,
+/// beyond which the watchdog stops it; with `--words` the trace has a line for each instruction too. `list IMAGE` writes
+/// the units of an image, a line for each. `upgrade IMAGE` writes the file of an image of the first version in the second,
+/// and `seal IMAGE` that of an image which is neither rewritten nor sealed, sealed. `rewrite IMAGE` writes an original
+/// image with each store, stack change and call of its code checked, and `verify IMAGE` says how many units the words of
+/// such an image spell. `asm TEXT` writes the image of a module's text, and `source IMAGE` the text of an original image.
+/// `gen SEED` runs the images and the script that the seed makes, and writes how many units ran, how many lines of a kind
+/// a trace of the run has, and how it ended. All memory is taken before the first byte is written.
 pub fn mote_main<F: Shelf, K: Sink>(
     alloc: Global,
     words: &[Word],

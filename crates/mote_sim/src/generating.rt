@@ -10,7 +10,7 @@ ghost use Rattle.mote_sim.specs.Generating.{SumsUp, SumsUpFrom};
 ghost use Rattle.mote_sim.specs.Outcome.{Answers, Generates};
 ghost use Rattle.mote_sim.specs.Pieces.{LeadsBySome};
 
-use crate::play::make_turn;
+use crate::playing::make_turn;
 use crate::preparing::prepare;
 use crate::summary::{Summary, put_summary};
 use crate::tally::Tally;

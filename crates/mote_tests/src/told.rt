@@ -1,8 +1,34 @@
 //! Runs whose instructions are told.
 
 use crate::tables::{Table, check_table, check_told};
+use crate::turns::SAYS;
 use crate::{calls, constants, parcels, rewritten, rows, sealed, timers, units};
+use domain_model::Lines;
+use event_script::parse_script;
+use mod_loader::Ready;
+use mote_base::MemSink;
+use mote_core::{Limits, Mote};
+use mote_sim::play;
+use std::alloc::Global;
 use std::test::Fail;
+use unit_run::FlashRunner;
+
+const ROOM: usize = 1000;
+
+/// What module 1 writes that says byte 65.
+const SAID: &[u8] = b"0 load 1 0 0000\n0 run 1 0 0\n1 say 1 65\n2 done 1\n3 end idle\n";
+
+/// A mote that loads it at time 0.
+fn saying(alloc: Global) -> Result<Mote<FlashRunner>, Fail> {
+    let image = Ready::new(alloc, SAYS)?;
+    let script = parse_script(alloc, b"0 load 0\n", 1)?;
+    let limits = Limits {
+        units: 100,
+        handler: 100,
+    };
+    let runner = FlashRunner::new(alloc, false)?;
+    Ok(Mote::new(alloc, vec![in alloc; image]?, script, limits, runner)?)
+}
 
 const TOLD: &str = "\
 @ s lines 0 load 0
@@ -93,5 +119,20 @@ fn runs_are_the_same_where_they_are_told(rt: HostRuntime) -> Result<(), Fail> {
             check_told(&rt, alloc, &table, call)?;
         }
     }
+    Ok(())
+}
+
+/// A mote that has been played stands at its end, and plays nothing more.
+#[test]
+fn a_mote_plays_to_its_end(rt: HostRuntime) -> Result<(), Fail> {
+    let alloc = rt.alloc();
+    let mut mote = saying(alloc)?;
+    let mut lines = Lines::new(alloc)?;
+    let mut out = MemSink::new(alloc, ROOM, vec![in alloc]?)?;
+    assert!(rt; play(&mut mote, &mut lines, &mut out).is_ok());
+    assert!(rt; out.bytes() == SAID);
+    assert_eq!(rt; mote.total(), 3);
+    assert!(rt; play(&mut mote, &mut lines, &mut out).is_ok());
+    assert!(rt; out.bytes() == SAID);
     Ok(())
 }

@@ -16,7 +16,7 @@ use trace_text::put_line;
 use unit_run::PlainRunner;
 
 /// Module 1 says byte 65: E481 940E F108 9508.
-const SAYS: &[u8] = b"SOSM\x01\x01\0\0\0\0\0\0\0\x04\0\x81\xE4\x0E\x94\x08\xF1\x08\x95";
+pub(crate) const SAYS: &[u8] = b"SOSM\x01\x01\0\0\0\0\0\0\0\x04\0\x81\xE4\x0E\x94\x08\xF1\x08\x95";
 
 /// Module 1 says its byte, and the watchdog stops the handler before its third unit, which counts no unit.
 const STOPPED: &str =

@@ -223,18 +223,18 @@ $ run --handler 100 s spins
 $ run s --units=40 spins
 0 load 1 0 0000;0 run 1 0 0;40 end budget
 
-# Module 1 fills its state of 1024 bytes and reads it, 146 times, waits, and says the last byte that it read: 900,000
+# Module 1 fills its state of 1024 bytes and reads it, 14 times, waits, and says the last byte that it read: 90,000
 # units.
-@ tabulates image 1 state 1024 code E902 01DC E0E0 E0F4 930D 9731 F7E9 01DC E0E0 E0F4 911D 9731 F7E9 950A F791 E8E5 \
-    E0F3 9731 F7F1 2F81 940E F108 9508
+@ tabulates image 1 state 1024 code E00E 01DC E0E0 E0F4 930D 9731 F7E9 01DC E0E0 E0F4 911D 9731 F7E9 950A F791 E8ED \
+    E0F7 9731 F7F1 2F81 940E F108 9508
 $ run --handler 1000000 s tabulates
-0 load 1 0 0200;0 run 1 0 0;899998 say 1 1;899999 done 1;900000 end idle
+0 load 1 0 0200;0 run 1 0 0;89998 say 1 1;89999 done 1;90000 end idle
 
-$ run --units 900000 --handler=1000000 s tabulates
-0 load 1 0 0200;0 run 1 0 0;899998 say 1 1;899999 done 1;900000 end idle
+$ run --units 90000 --handler=1000000 s tabulates
+0 load 1 0 0200;0 run 1 0 0;89998 say 1 1;89999 done 1;90000 end idle
 
-$ run --handler=1000000 s tabulates --units 899999
-0 load 1 0 0200;0 run 1 0 0;899998 say 1 1;899999 end budget
+$ run --handler=1000000 s tabulates --units 89999
+0 load 1 0 0200;0 run 1 0 0;89998 say 1 1;89999 end budget
 ";
 
 /// The limits that hold where none is given.

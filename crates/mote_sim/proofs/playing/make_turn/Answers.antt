@@ -4,7 +4,7 @@ use Rattle.domain_model.specs.declared.event.Turned.TheVariants.{More}
 use Rattle.word_run.specs.FlashValue.{FlashValue}
 use Rattle.mote_core.specs.Value.{MoteValue}
 use Rattle.mote_sim.proofs.Turning.{stands}
-use Rattle.mote_sim.proofs.play.make_turn.Goals as goal
+use Rattle.mote_sim.proofs.playing.make_turn.Goals as goal
 
 -- A turn behind which the run goes on did not come after an end.
 went_on : (old new : MoteValue FlashValue) → (old.ended ≢ More → new ≡ old) → new.ended ≡ More → old.ended ≡ More

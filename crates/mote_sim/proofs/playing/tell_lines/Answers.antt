@@ -6,7 +6,7 @@ use Rattle.mote_base.proofs.SoFar.{so_far_more, so_far_broke}
 use Rattle.domain_model.specs.declared.line.TraceLine.{TraceLine}
 use Rattle.trace_text.specs.Text.{text, texts}
 use Rattle.mote_sim.specs.Pieces.{Moves}
-use Rattle.mote_sim.proofs.play.tell_lines.Goals as goal
+use Rattle.mote_sim.proofs.playing.tell_lines.Goals as goal
 
 at : (lines : List TraceLine) (i : ℕ) (line : TraceLine) → i < length lines → texts (drop i lines) ≡ text (get_or lines i line) ++ texts (drop (i + 1) lines)
 at lines i line within = ap texts (drop-cons lines i line within) ∙ rw add-one refl

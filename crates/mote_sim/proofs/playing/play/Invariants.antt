@@ -4,7 +4,7 @@ use Rattle.word_run.specs.FlashValue.{part}
 use Rattle.mote_core.specs.Value.{state_of}
 use Rattle.mote_sim.specs.Pieces.{LeadsBySome, piece_bytes}
 use Rattle.mote_sim.proofs.Far.{Far}
-use Rattle.mote_sim.proofs.play.play.Given as goal
+use Rattle.mote_sim.proofs.playing.play.Given as goal
 
 -- the run goes on from here
 abbrev pub invariant-turns : goal.invariant-turns

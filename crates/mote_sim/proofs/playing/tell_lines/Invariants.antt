@@ -2,7 +2,7 @@ use Rattle.std.proofs.Common.{◌<◌, ◌++◌, length, drop}
 use Rattle.trace_text.specs.Text.{texts}
 use Rattle.mote_base.proofs.SoFar.{SoFar}
 use Rattle.mote_sim.specs.Pieces.{LeadsBySome, piece_bytes}
-use Rattle.mote_sim.proofs.play.tell_lines.Given as goal
+use Rattle.mote_sim.proofs.playing.tell_lines.Given as goal
 
 -- What is gathered and the lines to come are left of the whole.
 abbrev pub invariant-loop-line : goal.invariant-loop-line

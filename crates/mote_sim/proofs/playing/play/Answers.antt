@@ -1,7 +1,7 @@
 use Rattle.std.proofs.Common.{◌≡◌, ◌∙◌, sym}
 use Rattle.domain_model.specs.declared.event.Turned.TheVariants.{More, EndIdle, EndBudget}
 use Rattle.mote_sim.proofs.Far.{far_turn, far_over, far_stopped, plays_err}
-use Rattle.mote_sim.proofs.play.play.Goals as goal
+use Rattle.mote_sim.proofs.playing.play.Goals as goal
 
 pub returns-in_err-tell_lines : goal.returns-in_err-tell_lines
 returns-in_err-tell_lines g c =

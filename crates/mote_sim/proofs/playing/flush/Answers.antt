@@ -2,7 +2,7 @@ use Rattle.std.proofs.Common.{◌≡◌, ◌∙◌, ◌<◌, ℕ, zero, suc, fal
 use Rattle.mote_base.specs.Written.{Puts}
 use Rattle.mote_base.proofs.Puts.{puts_one}
 use Rattle.mote_sim.specs.Pieces.{LeadsBySome}
-use Rattle.mote_sim.proofs.play.flush.Goals as goal
+use Rattle.mote_sim.proofs.playing.flush.Goals as goal
 
 some : (n : ℕ) → nat_eq n 0 ≡ false → 0 < n
 some zero is = absurd (cc)
