@@ -6,10 +6,11 @@
 //! - `words`: which words of the command line are a command, and its options.
 //! - `generating`: runs of what a seed makes, summed up.
 //! - `images`: images that the top call writes by `upgrade` and `seal`.
-//! - `turns`: turns of a mote of `mote_core` under small limits, by two runners.
-//! - `units`: runs of modules with units and kernel calls of each kind, by the top call and by each runner.
+//! - `turns`: turns of a mote of `mote_core` under small limits.
+//! - `units`: runs of modules with units and kernel calls of each kind.
 //! - `told`: runs whose instructions are told.
-//! - `parcels`: runs with payloads, packets and dumps, by the top call.
+//! - `runs`: each run of the tables again, with its instructions told, and by two further runners.
+//! - `parcels`: runs with payloads, packets and dumps.
 //! - `constants`: runs of images with constants; `sealed`: runs of sealed ones; `calls`: runs with calls of functions;
 //!   `timers`: runs with timers.
 //! - `scribble`: a second runner, which leaves other values in every byte that a unit leaves open.
@@ -44,6 +45,8 @@ mod parcels;
 mod rewritten;
 #[cfg(test)]
 mod rows;
+#[cfg(test)]
+mod runs;
 #[cfg(test)]
 mod scripts;
 #[cfg(test)]

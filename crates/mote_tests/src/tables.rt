@@ -47,6 +47,12 @@ pub(crate) struct Table {
 }
 
 impl Call {
+    /// The files that a run is given, a script and images, where the call is one without options that is to end with Done.
+    pub(crate) fn run_files(&self) -> Option<&'static str> {
+        let files = self.words.strip_prefix("run ")?;
+        (self.status == 0 && !files.contains("-")).then_some(files)
+    }
+
     /// What the call is to write.
     pub(crate) fn text(&self) -> &[u8] {
         self.text.as_slice()
@@ -163,6 +169,16 @@ impl Table {
     /// A shelf of all files, which never fails.
     pub(crate) fn shelf(&self, alloc: Global) -> Result<MemShelf, NoMemory> {
         self.shelf_of(alloc, self.files.len(), NEVER)
+    }
+
+    /// The bytes of the file of a name that stands before a call.
+    pub(crate) fn file(&self, call: &Call, name: &str) -> Result<&[u8], Fail> {
+        for file in self.files.iter().take(call.files).rev() {
+            if file.name == name {
+                return Ok(file.bytes.as_slice());
+            }
+        }
+        Err(Fail::new("a file is missing"))
     }
 
     /// The file that stands last before a call.

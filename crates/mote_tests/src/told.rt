@@ -1,8 +1,7 @@
 //! Runs whose instructions are told.
 
-use crate::tables::{Table, check_table, check_told};
+use crate::tables::check_table;
 use crate::turns::SAYS;
-use crate::{calls, constants, parcels, rewritten, rows, sealed, timers, units};
 use domain_model::Lines;
 use event_script::parse_script;
 use mod_loader::Ready;
@@ -46,6 +45,13 @@ $ run --words s strays
 $ run --words --units 1 s says
 0 load 1 0 0000;0 run 1 0 0;w 4000 e481 10ff 00;1 end budget
 
+# Module 1 pushes a byte and pops it, and stores to its state of 8 bytes, and behind it.
+@ pushes image 1 state 8 code 920F 900F E0A7 E0B2 920D 920C 9508
+$ run --words s pushes
+0 load 1 0 0200;0 run 1 0 0;w 4000 940e 10ff 00;w 4002 920f 10ff 00;w 4003 940e 10fe 00;w 4005 900f 10fe 00
+w 4006 e0a7 10ff 00;w 4007 e0b2 10ff 00;w 4008 940e 10ff 00;w 400a 920d 10ff 00;w 400b 940e 10ff 00
+5 fault store 1 5 0208;5 unload 1;6 end idle
+
 # Module 1 has a unit of each kind but a load. Its short forms: a skip over an instruction, a branch. Its long ones: a skip over a guarded push,
 # a branch before a jump.
 @ kinds image 1 state 8 subscribes 9/0/iv00 code E005 01DC 930C 930F 911F D000 900F 900F FD00 0000 FF00 930F F409 0000 \
@@ -78,48 +84,9 @@ $3 run --words s says
 refused script 2 2
 ";
 
-/// The tables of runs whose instructions aren't told.
-const OTHERS: [&str; 22] = [
-    calls::ITSELF,
-    calls::OTHERS,
-    calls::TURNS,
-    calls::SEALED,
-    constants::CONSTANTS,
-    constants::ROOM,
-    constants::OWNERS,
-    constants::TWO,
-    parcels::PARCELS,
-    parcels::GOERS,
-    parcels::PACKETS,
-    parcels::DUMPS,
-    parcels::FAULTS,
-    rewritten::RUNS,
-    rows::RUNS,
-    sealed::LOADS,
-    sealed::BESIDE,
-    timers::ALONE,
-    timers::REPEATED,
-    timers::BESIDE,
-    units::UNITS,
-    units::GIVEN,
-];
-
 #[test]
 fn each_instruction_is_told_before_what_it_causes(rt: HostRuntime) -> Result<(), Fail> {
     check_table(&rt, rt.alloc(), TOLD)
-}
-
-/// With the lines of instructions left out, each run writes what it writes where they aren't told.
-#[test]
-fn runs_are_the_same_where_they_are_told(rt: HostRuntime) -> Result<(), Fail> {
-    let alloc = rt.alloc();
-    for text in OTHERS {
-        let table = Table::read(alloc, text)?;
-        for call in table.calls() {
-            check_told(&rt, alloc, &table, call)?;
-        }
-    }
-    Ok(())
 }
 
 /// A mote that has been played stands at its end, and plays nothing more.

@@ -1,14 +1,17 @@
 //! Turns of a mote whose budgets are small.
-ghost use Rattle.std.specs.Prelude.{◌≡◌, ◌≤◌};
+ghost use Rattle.std.specs.Prelude.{◌≡◌, ◌≤◌, IfOk, map};
+ghost use Rattle.std.specs.List.{AllByRecursion};
 ghost use Rattle.mote_layout.specs.Limits.{handler_limit, unit_limit};
+ghost use Rattle.domain_model.specs.Good.{IsGoodImage};
 ghost use Rattle.domain_model.specs.State.{no_runner};
+ghost use Rattle.mod_loader.specs.Banks.{prepared_of};
 
 use arrayvec::ArrayVec;
 use domain_model::{Lines, Turned};
 use event_script::parse_script;
 use kernel_call::Runner;
 use mod_loader::Ready;
-use mote_base::Line;
+use mote_base::{Line, NoMemory};
 use mote_core::{Limits, Mote};
 use std::alloc::Global;
 use std::test::Fail;
@@ -24,6 +27,9 @@ const STOPPED: &str =
 
 /// Module 1 jumps to itself without end: CFFF.
 const SPINS: &[u8] = b"SOSM\x01\x01\0\0\0\0\0\0\0\x01\0\xFF\xCF";
+
+/// A script that loads one image at time 0.
+pub(crate) const LOADS_IT: &[u8] = b"0 load 0\n";
 
 /// A run under a budget of units and the watchdog's bound: its lines, its end, and how many units ran.
 struct Row {
@@ -86,8 +92,8 @@ const ROWS: &[Row] = &[
     },
 ];
 
-/// No run of a row has more turns.
-const TURNS: u32 = 20_000;
+/// No run has more turns.
+const TURNS: u32 = 3_000_000;
 
 /// What a run came to: the text of its lines, its end, and how many units ran.
 #[derive(Drop)]
@@ -97,10 +103,22 @@ pub(crate) struct Ran {
     pub(crate) total: u64,
 }
 
-/// Loads a module at time 0 into a mote with a runner, and makes turns to the end.
+/// The images, prepared for their loads.
+fn readied(alloc: Global, images: &[&[u8]]) -> Result<Vec<Ready>, NoMemory>
+    ensures good { IfOk result (λ ready. AllByRecursion IsGoodImage (map prepared_of ready.items)) }
+{
+    let mut ready = Vec::new(alloc);
+    for image in images {
+        ready.push(Ready::new(alloc, image)?)?;
+    }
+    Ok(ready)
+}
+
+/// Runs a script over images on a mote with a runner: makes turns to the end.
 pub(crate) fn run_by<R: Runner>(
     alloc: Global,
-    image: &[u8],
+    script: &[u8],
+    images: &[&[u8]],
     limits: Limits,
     runner: R,
 ) -> Result<Ran, Fail>
@@ -109,9 +127,8 @@ pub(crate) fn run_by<R: Runner>(
     requires greatest { limits.handler ≤ handler_limit }
     requires runner { R.Runner.part runner ≡ no_runner }
 {
-    let image = Ready::new(alloc, image)?;
-    let script = parse_script(alloc, b"0 load 0\n", 1)?;
-    let mut mote = Mote::new(alloc, vec![in alloc; image]?, script, limits, runner)?;
+    let script = parse_script(alloc, script, images.len())?;
+    let mut mote = Mote::new(alloc, readied(alloc, images)?, script, limits, runner)?;
     let mut turn = Lines::new(alloc)?;
     let mut trace = Vec::new(alloc);
     let mut end = Turned::More;
@@ -143,7 +160,13 @@ fn budgets_end_runs_and_the_watchdog_stops_handlers(rt: HostRuntime) -> Result<(
             units: row.units,
             handler: row.handler,
         };
-        let ran = run_by(alloc, row.image, limits, PlainRunner::new(alloc)?)?;
+        let ran = run_by(
+            alloc,
+            LOADS_IT,
+            &[row.image],
+            limits,
+            PlainRunner::new(alloc)?,
+        )?;
         assert_eq!(rt; ran.end, row.end);
         assert!(rt; ran.trace.as_slice() == row.trace.as_bytes());
         assert_eq!(rt; ran.total, row.total);

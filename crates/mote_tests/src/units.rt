@@ -1,14 +1,7 @@
-//! Runs of modules with units and kernel calls of each kind, by the top call and by motes with each runner.
+//! Runs of modules with units and kernel calls of each kind.
 
-use crate::ScribbleRunner;
-use crate::calls::ITSELF;
-use crate::sealed::LOADS;
-use crate::tables::{Table, check_table};
-use crate::timers::ALONE;
-use crate::turns::run_by;
-use mote_core::Limits;
+use crate::tables::check_table;
 use std::test::Fail;
-use unit_run::{FlashRunner, PlainRunner};
 
 /// One module each, loaded at time 0.
 pub(crate) const UNITS: &str = "\
@@ -196,22 +189,6 @@ $ run s keeps steals
 0 load 2 0 0200;0 run 2 0 0;0 done 2;1 load 1 1 0000;1 run 1 0 0;4 fault owner 1 3 0200;4 unload 1;5 end idle
 ";
 
-/// Runs with the instructions that run.
-const TOLD: &str = "\
-@ s lines 0 load 0
-# Module 1 says byte 65.
-@ says image 1 code E481 940E F108 9508
-$ run s says
-0 load 1 0 0000;0 run 1 0 0;w 4000 e481 10ff 00;w 4001 940e 10ff 00;1 say 1 65;w 4003 940c 10ff 00;2 done 1;3 end idle
-
-# Module 1 pushes a byte and pops it, and stores to its state of 8 bytes, and behind it.
-@ pushes image 1 state 8 code 920F 900F E0A7 E0B2 920D 920C 9508
-$ run s pushes
-0 load 1 0 0200;0 run 1 0 0;w 4000 940e 10ff 00;w 4002 920f 10ff 00;w 4003 940e 10fe 00;w 4005 900f 10fe 00
-w 4006 e0a7 10ff 00;w 4007 e0b2 10ff 00;w 4008 940e 10ff 00;w 400a 920d 10ff 00;w 400b 940e 10ff 00
-5 fault store 1 5 0208;5 unload 1;6 end idle
-";
-
 /// Limits that the words give.
 const LIMITED: &str = "\
 # Module 1 jumps to itself without end.
@@ -237,61 +214,9 @@ $ run --handler=1000000 s tabulates --units 89999
 0 load 1 0 0200;0 run 1 0 0;89998 say 1 1;89999 end budget
 ";
 
-/// The limits that hold where none is given.
-const LIMITS: Limits = Limits {
-    units: 1_000_000,
-    handler: 10_000,
-};
-
 #[test]
 fn units_run_as_worked_out(rt: HostRuntime) -> Result<(), Fail> {
     check_table(&rt, rt.alloc(), UNITS)
-}
-
-/// A runner that leaves other values in the free bytes gives the same traces.
-#[test]
-fn both_runners_give_the_same_traces(rt: HostRuntime) -> Result<(), Fail> {
-    let alloc = rt.alloc();
-    for text in [UNITS, LOADS, ITSELF, ALONE] {
-        let table = Table::read(alloc, text)?;
-        for call in table.calls() {
-            let image = table.last_file(call);
-            let plain = run_by(alloc, image, LIMITS, PlainRunner::new(alloc)?)?;
-            assert_eq!(rt; plain.trace.as_slice(), call.text());
-            let scribble = ScribbleRunner::new(PlainRunner::new(alloc)?);
-            let other = run_by(alloc, image, LIMITS, scribble)?;
-            assert_eq!(rt; other.trace.as_slice(), call.text());
-        }
-    }
-    Ok(())
-}
-
-/// So does one that runs the words of the modules' banks.
-#[test]
-fn rows_run_the_same_by_words(rt: HostRuntime) -> Result<(), Fail> {
-    let alloc = rt.alloc();
-    for text in [UNITS, LOADS, ITSELF, ALONE] {
-        let table = Table::read(alloc, text)?;
-        for call in table.calls() {
-            let image = table.last_file(call);
-            let words = run_by(alloc, image, LIMITS, FlashRunner::new(alloc, false)?)?;
-            assert_eq!(rt; words.trace.as_slice(), call.text());
-        }
-    }
-    Ok(())
-}
-
-/// Where it tells the instructions, each is told before what it causes, with SP and SREG as it begins.
-#[test]
-fn instructions_are_told_as_they_begin(rt: HostRuntime) -> Result<(), Fail> {
-    let alloc = rt.alloc();
-    let table = Table::read(alloc, TOLD)?;
-    for call in table.calls() {
-        let image = table.last_file(call);
-        let words = run_by(alloc, image, LIMITS, FlashRunner::new(alloc, true)?)?;
-        assert_eq!(rt; words.trace.as_slice(), call.text());
-    }
-    Ok(())
 }
 
 #[test]
