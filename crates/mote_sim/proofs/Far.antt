@@ -9,10 +9,10 @@ use Rattle.domain_model.specs.declared.event.Turned.TheVariants.{More}
 use Rattle.domain_model.specs.declared.line.TraceLine.{TraceLine}
 use Rattle.trace_text.specs.Text.{text, texts}
 use Rattle.word_run.specs.FlashValue.{FlashValue}
-use Rattle.mote_core.specs.Exact.{Turning, turned}
+use Rattle.mote_core.specs.Exact.{turned}
 use Rattle.mote_core.specs.Value.{MoteValue}
-use Rattle.mote_sim.specs.Playing.{Played, Stopped, Plays}
-use Rattle.mote_sim.specs.Turns.{EndsAt, LeadsTo}
+use Rattle.mote_sim.specs.Playing.{Stopped, Plays}
+use Rattle.mote_sim.specs.Turns.{LeadsTo}
 use Rattle.mote_sim.specs.WordRun.{by_words}
 use Rattle.mote_sim.proofs.Turning.{front_of_end, leads_more, leads_start}
 

@@ -1,5 +1,5 @@
 -- What a runner of words keeps: the words of each bank spell its units.
-use Rattle.std.proofs.Common.{◌≡◌, ◌∙◌, ℕ, ◌<◌, ◌≤◌, List, [], length, Option, Some, None, inl, inr, zero, suc, refl, sym, ap, subst, arith}
+use Rattle.std.proofs.Common.{◌≡◌, ◌∙◌, ℕ, ◌≤◌, List, [], Option, Some, None, inl, inr, zero, suc, refl, sym, ap, subst, arith}
 use Rattle.std.specs.Prelude.{slice_set}
 use Rattle.std.proofs.lemmas.Bool.{cases_lt}
 use Rattle.std.proofs.lemmas.List.{set_past}
@@ -9,8 +9,8 @@ use Rattle.unit_code.specs.declared.unit.Unit.{Unit}
 use Rattle.domain_model.specs.declared.handler.Running.{Running}
 use Rattle.domain_model.specs.State.{KernelState}
 use Rattle.word_run.specs.Entries.{Way, Goes, Ends}
-use Rattle.word_run.specs.FlashValue.{FlashValue, entry_point, unit_at, words_cleared, words_entered, words_placed}
-use Rattle.word_run.specs.WordRun.{goes_by, goes_from, goes_in, instruction_limit, one_step, run_from, words_act, words_by}
+use Rattle.word_run.specs.FlashValue.{FlashValue, entry_point, unit_at, words_placed}
+use Rattle.word_run.specs.WordRun.{goes_by, goes_from, goes_in, instruction_limit, one_step, run_from, words_by}
 use Rattle.unit_run.specs.FlashLaw.{flash_law}
 use Rattle.unit_run.specs.FlashRunners.{IsBank, KeepsWords}
 use Rattle.unit_run.proofs.Placing.{empty_bank, placeable_bank, placed_keeps}

@@ -13,7 +13,7 @@ use Rattle.domain_model.specs.Runners.{without_ran}
 use Rattle.domain_model.specs.State.{State, Input, begins, start}
 use Rattle.domain_model.specs.Turn.{RunFrom, is_unstated, more, over}
 use Rattle.trace_text.specs.Text.{texts}
-use Rattle.word_run.specs.FlashValue.{FlashValue, no_words, part}
+use Rattle.word_run.specs.FlashValue.{FlashValue, part}
 use Rattle.unit_run.specs.FlashRunners.{KeepsWords}
 use Rattle.unit_run.proofs.Placing.{nothing_placed}
 use Rattle.mod_loader.specs.Banks.{AreSpelled}
@@ -26,7 +26,7 @@ use Rattle.mote_sim.specs.Playing.{StandsAt, Played, Stopped}
 use Rattle.mote_sim.specs.Summary.{summary_of}
 use Rattle.mote_sim.specs.Trace.{IsLawfulRun, IsTraceOf}
 use Rattle.mote_sim.specs.Turns.{EndsAt}
-use Rattle.mote_sim.specs.WordRun.{IsWordRun, by_words, word_start}
+use Rattle.mote_sim.specs.WordRun.{IsWordRun, by_words}
 use Rattle.mote_sim.proofs.Keeping.{words_are_kept}
 use Rattle.mote_sim.proofs.Readied.{prepared_all, spelled_all}
 use Rattle.mote_sim.proofs.Sound.{IsSound, RunsTo, comes_to_end, lawful_end}

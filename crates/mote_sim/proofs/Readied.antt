@@ -4,7 +4,6 @@ use Rattle.std.specs.List.{AllByRecursion}
 use Rattle.unit_code.specs.declared.unit.Unit.{Unit}
 use Rattle.unit_code.specs.Spelling.{Spells}
 use Rattle.harbor_spell.proofs.OneSpelling.{one_spelling}
-use Rattle.harbor_rewrite.specs.Emit.{AreEmitted}
 use Rattle.harbor_rewrite.proofs.Emission.{one_emission}
 use Rattle.module_image.specs.declared.error.ImageError.{ImageError}
 use Rattle.module_image.specs.Contents.{Contents}
@@ -15,7 +14,7 @@ use Rattle.module_image.proofs.Images.{image_read, image_takes}
 use Rattle.domain_model.specs.declared.refusal.Refusal.{Refusal}
 use Rattle.domain_model.specs.Prepared.{Module, Prep, prepared, prepared_image}
 use Rattle.mod_loader.specs.Banks.{AreSpelled, AreWordsFor, Banked, HasItsWords, Readied, SpellUnits, code_of, prepared_of}
-use Rattle.mote_sim.specs.WordRun.{AreReadied, HasWords, HasWordsOrNone, IsReadied}
+use Rattle.mote_sim.specs.WordRun.{AreReadied, HasWords, IsReadied}
 
 -- bytes, looked up by their places
 are_bytes : (bytes : List ℕ) → AllByRecursion (λ byte. byte < 256) bytes → IsBytes bytes

@@ -1,6 +1,6 @@
 -- The run of a mote whose runner keeps what it holds: each of its turns is lawful, and it comes to an end.
-use Rattle.std.proofs.Common.{◌≡◌, ◌≢◌, ◌∙◌, inl, inr, ℕ, zero, suc, ◌<◌, ◌+◌, List, [], ◌∷◌, ◌++◌, Result, Ok, Err, Option, Some, None, refl, sym, ap, subst, arith, append_assoc, append-nil, slice_get}
-use Rattle.std.specs.Prelude.{IsSome, not, ⊤}
+use Rattle.std.proofs.Common.{◌≡◌, ◌≢◌, ◌∙◌, inl, inr, ℕ, zero, suc, ◌<◌, ◌+◌, List, [], ◌++◌, Result, Ok, Err, Option, Some, None, refl, sym, ap, subst, arith, append_assoc, append-nil, slice_get}
+use Rattle.std.specs.Prelude.{IsSome, not}
 use Rattle.std.specs.List.{AllByRecursion}
 use Rattle.std.proofs.lemmas.List.Elements.{filter-append}
 use Rattle.mote_base.specs.Messages.{front}
@@ -24,7 +24,7 @@ use Rattle.domain_model.specs.Modules.{module_named}
 use Rattle.domain_model.specs.Remaining.{remaining}
 use Rattle.domain_model.specs.Runners.{IsPlaceable, is_ran, unit_by, without_ran, without_ran_lines}
 use Rattle.domain_model.specs.State.{KernelState, Loaded, Message, State}
-use Rattle.domain_model.specs.Turn.{Made, May, Leaves, Turn, RunBy, choice, made, more, over}
+use Rattle.domain_model.specs.Turn.{Made, May, Leaves, Turn, choice, made, more, over}
 use Rattle.domain_model.proofs.ChoiceLaws.{choice_facts}
 use Rattle.domain_model.proofs.FewerLaws.{remaining_falls}
 use Rattle.domain_model.proofs.LawfulLaws.{turns_are_lawful}
@@ -38,7 +38,7 @@ use Rattle.mote_core.specs.Seen.{AreLawful, seen}
 use Rattle.mote_core.specs.Value.{MoteValue, acted, state_of}
 use Rattle.mote_core.proofs.SeenLaws.{turn_is_seen}
 use Rattle.mote_sim.specs.Generating.{last_of}
-use Rattle.mote_sim.specs.Turns.{EndsAt, LeadsTo, one_more, turns}
+use Rattle.mote_sim.specs.Turns.{EndsAt, one_more, turns}
 use Rattle.mote_sim.proofs.Turning.{more_stays, stands}
 
 -- What a runner keeps through all of its workings: it is another's place of what is placed, cleared and entered, and of a unit that

@@ -1,5 +1,5 @@
 -- Turns one after the other: they lead to one end, and what they wrote before stands in front of all that they write.
-use Rattle.std.proofs.Common.{◌≡◌, ◌≢◌, ◌∙◌, ◌⊎◌, inl, inr, ℕ, zero, suc, ◌≤◌, ◌<◌, List, [], ◌++◌, refl, sym, ap, subst, arith, append_assoc, append-nil}
+use Rattle.std.proofs.Common.{◌≡◌, ◌≢◌, ◌∙◌, ◌⊎◌, inl, inr, ℕ, zero, suc, ◌≤◌, List, [], ◌++◌, refl, sym, ap, subst, arith, append_assoc, append-nil}
 use Rattle.std.proofs.lemmas.Bool.{cases_lt}
 use Rattle.domain_model.specs.declared.event.Choice.{Choice}
 use Rattle.domain_model.specs.declared.event.Choice.TheVariants.{Stays}
@@ -7,7 +7,7 @@ use Rattle.domain_model.specs.declared.event.Turned.{Turned}
 use Rattle.domain_model.specs.declared.event.Turned.TheVariants.{More, EndIdle, EndBudget}
 use Rattle.domain_model.specs.declared.line.TraceLine.{TraceLine}
 use Rattle.domain_model.specs.State.{State}
-use Rattle.domain_model.specs.Turn.{choice, choose_ended}
+use Rattle.domain_model.specs.Turn.{choose_ended}
 use Rattle.mote_core.specs.Exact.{Turning, Workings, turned, turned_by}
 use Rattle.mote_core.specs.Value.{MoteValue, state_of}
 use Rattle.mote_sim.specs.Turns.{EndsAt, LeadsTo, one_more, turns}

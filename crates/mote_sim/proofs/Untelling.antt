@@ -1,5 +1,5 @@
 -- The run of a mote that tells its instructions, and of one that does not: they differ in the lines of instructions alone.
-use Rattle.std.proofs.Common.{◌≡◌, ◌∙◌, ℕ, zero, suc, List, [], ◌∷◌, ◌++◌, Bool, true, false, Result, Ok, Err, Option, Some, None, refl, sym, ap, subst, slice_get}
+use Rattle.std.proofs.Common.{◌≡◌, ◌∙◌, ℕ, zero, suc, List, ◌++◌, false, Result, Ok, Err, Option, Some, None, refl, sym, ap, slice_get}
 use Rattle.std.specs.Prelude.{not}
 use Rattle.std.proofs.lemmas.List.Elements.{filter-append}
 use Rattle.mote_base.specs.Messages.{front}
@@ -21,7 +21,7 @@ use Rattle.mod_loader.specs.declared.refusal.LoadRefusal.{LoadRefusal}
 use Rattle.mod_loader.specs.Banks.{Banked, Readied}
 use Rattle.mod_loader.specs.Loads.{loading}
 use Rattle.word_run.specs.FlashValue.{FlashValue, part, words_cleared, words_entered, words_placed}
-use Rattle.word_run.specs.Telling.{quietly, untold}
+use Rattle.word_run.specs.Telling.{untold}
 use Rattle.word_run.specs.WordRun.{WordsActed, words_act}
 use Rattle.word_run.proofs.Untold.{acts_untold}
 use Rattle.mote_core.specs.Exact.{Turning, came_by, closed_by, dispatched_by, faulted_by, handler_entered, loaded_by, loaded_into, module_cleared, moved_to, runner_after, settled_by, turned, turned_by}

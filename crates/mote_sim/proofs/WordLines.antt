@@ -1,6 +1,6 @@
 -- The lines of instructions in a text: those that begin with `w` and a space.
-use Rattle.std.proofs.Common.{◌≡◌, ◌∙◌, ℕ, zero, suc, ◌+◌, ◌/◌, ◌%◌, ◌<◌, ◌≤◌, ◌≢◌, List, [], ◌∷◌, ◌++◌, Bool, true, false, Option, Some, None, refl, sym, ap, subst, arith, cond, append_assoc}
-use Rattle.std.specs.Prelude.{◌==◌, ◌&&◌, not, nat_lt, codes, decimal, if◌then◌else◌}
+use Rattle.std.proofs.Common.{◌≡◌, ◌∙◌, ℕ, zero, suc, ◌+◌, ◌/◌, ◌%◌, ◌<◌, ◌≤◌, ◌≢◌, List, [], ◌∷◌, ◌++◌, Bool, true, false, Option, Some, None, refl, sym, ap, arith, cond, append_assoc}
+use Rattle.std.specs.Prelude.{◌==◌, ◌&&◌, not, nat_lt, codes, decimal}
 use Rattle.std.specs.List.{AllByRecursion, list_all}
 use Rattle.std.specs.Char.{digit_char}
 use Rattle.std.specs.Fmt.{digits, digits_onto, digit_glyph}
@@ -16,7 +16,7 @@ use Rattle.domain_model.specs.declared.line.TraceLine.{TraceLine}
 use Rattle.domain_model.specs.declared.line.TraceLine.TheVariants.{Load, Refused, Run, Call, Unbound, Say, Send, Queued, Dropped, Done, Fault, Unload, Absent, Dump, DumpModule, DumpBlock, DumpMsg, DumpTimer, DumpEnd, EndIdle, EndBudget, Ran}
 use Rattle.domain_model.specs.Runners.{is_ran, without_ran}
 use Rattle.trace_text.specs.Text.{text, texts, line_words, rule_text, why_text, owner_text, queue_text}
-use Rattle.mote_sim.specs.WordLaws.{TextsAreLeft, begins_told, left, put_if, without_word_lines}
+use Rattle.mote_sim.specs.WordLaws.{TextsAreLeft, begins_told, left, without_word_lines}
 use Rattle.mote_sim.proofs.WordRuns.{left_out}
 
 -- a byte within a line

@@ -1,5 +1,5 @@
 -- The word run of an input is one, and lawful.
-use Rattle.std.proofs.Common.{◌≡◌, ◌∙◌, ℕ, List, [], ◌∷◌, Bool, true, false, refl, sym, ap, subst}
+use Rattle.std.proofs.Common.{◌≡◌, List, Bool, true, false, sym, ap, subst}
 use Rattle.domain_model.specs.declared.line.TraceLine.{TraceLine}
 use Rattle.domain_model.specs.Runners.{without_ran}
 use Rattle.domain_model.specs.State.{Input}
@@ -9,7 +9,7 @@ use Rattle.mote_core.specs.Exact.{Turning}
 use Rattle.mote_core.specs.Value.{MoteValue}
 use Rattle.mote_sim.specs.Turns.{EndsAt}
 use Rattle.mote_sim.specs.WordLaws.{LinesAreLeftOut, RunsAreOne}
-use Rattle.mote_sim.specs.WordRun.{IsWordRun, by_words, word_start}
+use Rattle.mote_sim.specs.WordRun.{by_words, word_start}
 use Rattle.mote_sim.proofs.Readied.{one_readying}
 use Rattle.mote_sim.proofs.Turning.{one_end}
 use Rattle.mote_sim.proofs.Untelling.{ends_untold, quiet_mote}

@@ -1,5 +1,5 @@
 -- The word run of an input: the machine's turns, with the words of each bank in place of its units.
-use Rattle.std.specs.Prelude.{◌≡◌, ℕ, Bool, List, [], ◌∷◌, Result, Ok, Err, ⊤}
+use Rattle.std.specs.Prelude.{◌≡◌, ℕ, Bool, List, [], ◌∷◌, Ok, Err, ⊤}
 use Rattle.module_image.specs.Contents.{Contents}
 use Rattle.module_image.specs.Spelling.{Image}
 use Rattle.domain_model.specs.declared.line.TraceLine.{TraceLine}

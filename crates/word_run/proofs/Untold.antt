@@ -1,5 +1,5 @@
 -- Whether a runner tells its instructions: its unit is the same, but for their lines.
-use Rattle.std.proofs.Common.{◌≡◌, ◌∙◌, ℕ, zero, suc, List, [], ◌∷◌, ◌++◌, Bool, true, false, Option, Some, None, refl, sym, ap}
+use Rattle.std.proofs.Common.{◌≡◌, ◌∙◌, ℕ, zero, suc, List, [], Bool, true, false, Option, Some, None, refl, sym, ap}
 use Rattle.std.specs.Prelude.{nat_le, not}
 use Rattle.std.proofs.lemmas.List.Elements.{filter-append}
 use Rattle.avr_machine.specs.Processor.{Processor as CountingProcessor}
@@ -26,7 +26,7 @@ use Rattle.kernel_call.specs.Calling.{SlotCalling, Returning, called_slot, enter
 use Rattle.word_run.specs.FlashValue.{FlashValue, entry_point, unit_at}
 use Rattle.word_run.specs.Entries.{Way, Goes, Ends, Reached, back_kernel, called_row, entry_row, group_guarded, group_under, guarded, indirect_called, local_from, returned_from, returned_way, room_made, slot_from, slot_way}
 use Rattle.word_run.specs.Telling.{TellingAddsLines, quietly, untold}
-use Rattle.word_run.specs.WordRun.{WordsActed, after_one, arrived, at_entry, begun_lines, behind, ends_as, goes_by, goes_from, goes_in, goes_on, instruction_limit, one_step, ran_lines, run_from, words_act, words_by}
+use Rattle.word_run.specs.WordRun.{WordsActed, after_one, arrived, at_entry, begun_lines, behind, goes_by, goes_from, goes_in, goes_on, instruction_limit, one_step, ran_lines, run_from, words_by}
 
 -- An entry looks at the words alone, and not at whether they are told.
 returned_same : (a : Returned) (v : FlashValue) → returned_way a (untold v) ≡ returned_way a v

@@ -1,5 +1,4 @@
 use Rattle.std.proofs.Common.{◌≡◌, ◌≢◌, ◌∙◌, inl, inr, sym, ap}
-use Rattle.domain_model.specs.declared.event.Turned.{Turned}
 use Rattle.domain_model.specs.declared.event.Turned.TheVariants.{More}
 use Rattle.word_run.specs.FlashValue.{FlashValue}
 use Rattle.mote_core.specs.Value.{MoteValue}
