@@ -19,36 +19,38 @@ const LIMITS: Limits = Limits {
 };
 
 /// The tables of runs.
-const TABLES: [&str; 22] = [
-    calls::ITSELF,
-    calls::OTHERS,
-    calls::TURNS,
-    calls::SEALED,
-    constants::CONSTANTS,
-    constants::ROOM,
-    constants::OWNERS,
-    constants::TWO,
-    parcels::PARCELS,
-    parcels::GOERS,
-    parcels::PACKETS,
-    parcels::DUMPS,
-    parcels::FAULTS,
-    rewritten::RUNS,
-    rows::RUNS,
-    sealed::LOADS,
-    sealed::BESIDE,
-    timers::ALONE,
-    timers::REPEATED,
-    timers::BESIDE,
-    units::UNITS,
-    units::GIVEN,
-];
+fn tables() -> [&'static str; 22] {
+    [
+        calls::ITSELF,
+        calls::OTHERS,
+        calls::TURNS,
+        calls::SEALED,
+        constants::CONSTANTS,
+        constants::ROOM,
+        constants::OWNERS,
+        constants::TWO,
+        parcels::PARCELS,
+        parcels::GOERS,
+        parcels::PACKETS,
+        parcels::DUMPS,
+        parcels::FAULTS,
+        rewritten::RUNS,
+        rows::RUNS,
+        sealed::LOADS,
+        sealed::BESIDE,
+        timers::ALONE,
+        timers::REPEATED,
+        timers::BESIDE,
+        units::UNITS,
+        units::GIVEN,
+    ]
+}
 
 /// With the lines of instructions left out, each run writes what it writes where they aren't told.
 #[test]
 fn runs_are_the_same_where_they_are_told(rt: HostRuntime) -> Result<(), Fail> {
     let alloc = rt.alloc();
-    for text in TABLES {
+    for text in tables() {
         let table = Table::read(alloc, text)?;
         for call in table.calls() {
             check_told(&rt, alloc, &table, call)?;
@@ -81,7 +83,7 @@ fn trace_by<R: Runner>(
 #[test]
 fn runs_are_the_same_by_other_runners(rt: HostRuntime) -> Result<(), Fail> {
     let alloc = rt.alloc();
-    for text in TABLES {
+    for text in tables() {
         let table = Table::read(alloc, text)?;
         for call in table.calls() {
             let Some(files) = call.run_files() else {
