@@ -1,4 +1,4 @@
-//! Tests of the public calls of the machine of domains, the mote and the program.
+//! Tests of the public calls of the mote and the program.
 //!
 //! - `tables`: calls of `mote_sim`'s top call told as text, read and checked; `files`: the files that they tell.
 //! - `rows`: runs and listings, with their faults and limits.
@@ -16,9 +16,6 @@
 //! - `scribble`: a second runner, which leaves other values in every byte that a unit leaves open.
 //! - `modules`: modules as text, and the text of an image.
 //! - `verdicts`: verdicts on rewritten images, and their listings.
-//! - `scripts`: the events of a script of `event_script`, and what refuses it.
-//! - `traces`: the text of each line of a trace of `trace_text`.
-//! - `lines`: the lines that `domain_model` keeps of a turn.
 #![tactic(auto)]
 
 mod scribble;
@@ -36,8 +33,6 @@ mod generating;
 #[cfg(test)]
 mod images;
 #[cfg(test)]
-mod lines;
-#[cfg(test)]
 mod modules;
 #[cfg(test)]
 mod parcels;
@@ -48,8 +43,6 @@ mod rows;
 #[cfg(test)]
 mod runs;
 #[cfg(test)]
-mod scripts;
-#[cfg(test)]
 mod sealed;
 #[cfg(test)]
 mod tables;
@@ -57,8 +50,6 @@ mod tables;
 mod timers;
 #[cfg(test)]
 mod told;
-#[cfg(test)]
-mod traces;
 #[cfg(test)]
 mod turns;
 #[cfg(test)]

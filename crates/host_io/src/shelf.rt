@@ -1,11 +1,12 @@
 //! The files of the system.
 ghost use Rattle.std.specs.Prelude.{◌≡◌, ◌<◌, ◌≤◌, length, take, drop, is_some, ⊤, true, false, None, IfOk, OnErr};
 ghost use Rattle.std.specs.Io.KnownBytes.{Consumes, IsAtEnd, Keeps};
+ghost use Rattle.mote_base.specs.Causes.{Rose};
 
 use mote_base::{Failed, Shelf, Word};
 use std::fs::File;
 use std::io;
-use std::io::Read;
+use std::io::{ErrorKind, Read};
 
 #[cfg(test)]
 mod tests;
@@ -25,11 +26,23 @@ impl<'a> FileShelf<'a> {
         ensures faults { ⟦<FileShelf<'a> as Shelf>⟧.faults result ≡ 0 }
         ensures chosen { ⟦<FileShelf<'a> as Shelf>⟧.is_chosen result ≡ false }
     {
+        let file = None;
         FileShelf {
             rt,
-            file: None,
+            file,
             faults: 0,
         }
+    }
+
+    // A call fails: it is counted, and no file is chosen any more.
+    fn fail(&mut self) -> Failed
+        ensures none { is_some self.new.file ≡ false }
+        ensures counted { Rose self.old.faults self.new.faults }
+        ensures later { self.old.faults ≤ self.new.faults }
+    {
+        self.file = None;
+        self.faults = self.faults.saturating_add(1);
+        Failed
     }
 }
 
@@ -45,15 +58,11 @@ fn read_once<R: Read>(file: &mut R, buf: &mut [u8]) -> io::Result<usize>
 {
     for _ in 0..u64::MAX {
         match file.read(buf) {
-            Ok(count) => return Ok(count),
-            Err(e) => {
-                if e.kind() != io::ErrorKind::Interrupted {
-                    return Err(e);
-                }
-            }
+            Err(e) if e.kind() == ErrorKind::Interrupted => {}
+            answer => return answer,
         }
     }
-    Err(io::Error::from(io::ErrorKind::Interrupted))
+    Err(io::Error::from(ErrorKind::Interrupted))
 }
 
 // The next bytes of a file: none only at its end and for an empty buffer. An error is a failure, and gave no byte. They
@@ -95,26 +104,17 @@ impl<'a> Shelf for FileShelf<'a> {
                 self.file = Some(file);
                 Ok(())
             }
-            Err(_) => {
-                self.file = None;
-                self.faults = self.faults.saturating_add(1);
-                Err(Failed)
-            }
+            Err(_) => Err(self.fail()),
         }
     }
 
     fn read(&mut self, buf: &mut [u8]) -> Result<usize, Failed> {
-        let answer = match &mut self.file {
-            Some(file) => read_some(file, buf),
-            None => unreachable!(),
+        let Some(file) = &mut self.file else {
+            unreachable!();
         };
-        match answer {
-            Ok(count) => Ok(count),
-            Err(failed) => {
-                self.file = None;
-                self.faults = self.faults.saturating_add(1);
-                Err(failed)
-            }
+        match read_some(file, buf) {
+            Err(_) => Err(self.fail()),
+            given => given,
         }
     }
 }

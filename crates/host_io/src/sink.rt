@@ -1,11 +1,11 @@
-//! A writer as a sink: the standard output, of the program.
+//! A writer as a sink, as the standard output is of the program.
 ghost use Rattle.std.specs.Prelude.{◌≡◌, ◌≤◌, length, take, ⊤, IfOk, OnOk, OnErr};
 ghost use Rattle.std.specs.Io.KnownBytes.{Appends, Keeps};
 ghost use Rattle.mote_base.specs.Written.{Grows, GrowsByPart};
 
 use mote_base::{Failed, Sink};
 use std::io;
-use std::io::Write;
+use std::io::{ErrorKind, Write};
 
 #[cfg(test)]
 mod tests;
@@ -35,15 +35,11 @@ fn write_once<W: Write>(out: &mut W, piece: &[u8]) -> io::Result<usize>
 {
     for _ in 0..u64::MAX {
         match out.write(piece) {
-            Ok(count) => return Ok(count),
-            Err(e) => {
-                if e.kind() != io::ErrorKind::Interrupted {
-                    return Err(e);
-                }
-            }
+            Err(e) if e.kind() == ErrorKind::Interrupted => {}
+            answer => return answer,
         }
     }
-    Err(io::Error::from(io::ErrorKind::Interrupted))
+    Err(io::Error::from(ErrorKind::Interrupted))
 }
 
 // Writes the whole piece, each byte once and in order. A write that takes nothing of a piece that isn't empty is a
@@ -71,12 +67,10 @@ impl<W: Write> Sink for WriterSink<W> {
     ghost leads = { λ _ _ _ _. ⊤ };
 
     fn put(&mut self, piece: &[u8]) -> Result<(), Failed> {
-        match write_whole(&mut self.out, piece) {
-            Ok(()) => Ok(()),
-            Err(failed) => {
-                self.faults = self.faults.saturating_add(1);
-                Err(failed)
-            }
+        let answer = write_whole(&mut self.out, piece);
+        if answer.is_err() {
+            self.faults = self.faults.saturating_add(1);
         }
+        answer
     }
 }

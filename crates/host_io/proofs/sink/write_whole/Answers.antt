@@ -1,7 +1,7 @@
 use Rattle.std.proofs.Common.{ℕ, List, sym, subst}
 use Rattle.std.proofs.lemmas.List.{take_rest}
-use Rattle.mote.proofs.Sent.{IsSent, sent-more}
-use Rattle.mote.proofs.sink.write_whole.Goals as goal
+use Rattle.host_io.proofs.Sent.{IsSent, sent-more}
+use Rattle.host_io.proofs.sink.write_whole.Goals as goal
 
 pub loop-rest-preserved : goal.loop-rest-preserved
 loop-rest-preserved g c =
