@@ -35,7 +35,8 @@ WordsAreUnique = (first other : ℕ) (second further : Option ℕ) (i : Instr) (
 abbrev pub OneWordStandsAlone : Type 0
 OneWordStandsAlone = (first : ℕ) (second other : Option ℕ) (i : Instr) → Row first second i 1 → Row first other i 1
 
--- the function `decoded` gives an instruction exactly where the table has a row, and each refusal exactly where none can be
+-- the function `decoded` gives an instruction exactly where the table has a row, and each refusal exactly where none
+-- can be
 abbrev pub DecodesRows : Type 0
 DecodesRows = (first : ℕ) (second : Option ℕ) (i : Instr) (n : ℕ) → (decoded first second ≡ Ok (i, n)) ↔ Row first second i n
 

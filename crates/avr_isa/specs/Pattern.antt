@@ -1,5 +1,5 @@
--- A pattern is an opcode as the AVR Instruction Set Manual prints it, as in "0011 KKKK dddd KKKK". A 0 and a 1 stand for that
--- bit, a letter for any bit, and a space only parts groups. The first symbol is the word's highest bit.
+-- A pattern is an opcode as the AVR Instruction Set Manual prints it, as in "0011 KKKK dddd KKKK". A 0 and a 1 stand
+-- for that bit, a letter for any bit, and a space only parts groups. The first symbol is the word's highest bit.
 use Rattle.std.specs.Prelude.{◌≡◌, ◌==◌, ◌+◌, ◌*◌, ◌-◌, ◌^◌, ℕ, ℤ, pos, negsuc, nat_lt, List, [], ◌∷◌, length, filter, codes, if◌then◌else◌, true, false, not}
 use Rattle.std.specs.Int.{bit_at}
 use Prim.Native.String.{String}

@@ -1,5 +1,5 @@
--- The opcodes of the ATmega128, a line each, as the sections "16-bit Opcode" and "32-bit Opcode" of the AVR Instruction Set
--- Manual print them, and the instruction that each stands for. A word in no line is undefined.
+-- The opcodes of the ATmega128, a line each, as the sections "16-bit Opcode" and "32-bit Opcode" of the AVR Instruction
+-- Set Manual print them, and the instruction that each stands for. A word in no line is undefined.
 use Rattle.std.specs.Prelude.{◌≡◌, ◌+◌, ◌*◌, ◌^◌, ℕ, List, [], ◌∷◌, Option, None, Some, Result, Ok, Err, slice_get}
 use Rattle.avr_isa.specs.Pattern.{symbols, Matches, operand, signed}
 use Rattle.avr_isa.specs.declared.instruction.Instr.{Instr}

@@ -1,5 +1,5 @@
-//! The fixed bits of the instructions, which decoding and encoding share. Each number has as many digits as it has bits in the
-//! word.
+//! The fixed bits of the instructions, which decoding and encoding share. Each number has as many digits as it has bits
+//! in the word.
 
 /// The top four bits of an instruction with a constant, and of a relative jump.
 pub(crate) const CPI: u8 = 0b0011;
@@ -67,8 +67,8 @@ pub(crate) const SBRC: u8 = 0b111_1110;
 
 pub(crate) const SBRS: u8 = 0b111_1111;
 
-/// The top eight bits of an instruction of two pairs or two halves of the registers, of a pair and a constant, and of a bit of a
-/// port.
+/// The top eight bits of an instruction of two pairs or two halves of the registers, of a pair and a constant, and of a
+/// bit of a port.
 pub(crate) const MOVW: u8 = 0b0000_0001;
 
 pub(crate) const MULS: u8 = 0b0000_0010;

@@ -1,12 +1,13 @@
--- The text of each instruction that stands in a unit as it is: the names of the AVR Instruction Set Manual in lower case.
+-- The text of each instruction that stands in a unit as it is: the names of the AVR Instruction Set Manual in lower
+-- case.
 use Rattle.std.specs.Prelude.{◌≢◌, ℕ, List, [], ◌++◌, codes, decimal}
 use Rattle.avr_isa.specs.declared.instruction.Instr.{Instr}
 use Rattle.avr_isa.specs.declared.instruction.Instr.TheVariants.{Nop, Movw, Muls, Mulsu, Fmul, Fmuls, Fmulsu, Cpc, Sbc, Add, Cpse, Cp, Sub, Adc, And, Eor, Or, Mov, Cpi, Sbci, Subi, Ori, Andi, LddZ, LddY, StdZ, StdY, Lds, LdZInc, LdZDec, LdYInc, LdYDec, LdX, LdXInc, LdXDec, Sts, StZInc, StZDec, StYInc, StYDec, StX, StXInc, StXDec, Com, Neg, Swap, Inc, Asr, Lsr, Ror, Dec, Bset, Bclr, Adiw, Sbiw, Mul, In, Out, Ldi, Bld, Bst, Sbrc, Sbrs}
 use Rattle.avr_list.specs.Operands.{register, address, with_operand, with_operands}
 
--- The destination comes first, then the other register, the constant, port or bit; a store, and OUT, puts its register last.
--- Pairs of registers are named by their lower one. Y and Z with a displacement have it always, 0 too. The instructions
--- that are left either are refused or make a unit that has a text of its own.
+-- The destination comes first, then the other register, the constant, port or bit; a store, and OUT, puts its register
+-- last. Pairs of registers are named by their lower one. Y and Z with a displacement have it always, 0 too. The
+-- instructions that are left either are refused or make a unit that has a text of its own.
 unfoldable pub instruction_text : Instr → List ℕ
 instruction_text Nop = codes "nop"
 instruction_text (Movw d r) = with_operands (codes "movw") (register d) (register r)

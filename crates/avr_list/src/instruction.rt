@@ -16,8 +16,8 @@ use mote_base::{Line, add_text};
 
 /// Adds an instruction.
 ///
-/// The instructions come in the order of the table of opcodes; each function takes the next lines, and passes the later ones
-/// on. Here are those of two registers, or of a register and a constant.
+/// The instructions come in the order of the table of opcodes; each function takes the next lines, and passes the later
+/// ones on. Here are those of two registers, or of a register and a constant.
 pub fn add_instruction(line: &mut Line, instruction: &Instr)
     requires room { array_vec_len line.old + unit_width ≤ line_bytes }
     requires text { HasText instruction.now }

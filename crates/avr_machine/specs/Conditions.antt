@@ -13,8 +13,8 @@ use Rattle.avr_machine.specs.Effect.{writes}
 abbrev pub IsApartFrom : ℕ → ℕ → Type 0
 IsApartFrom pointer d = (d ≢ pointer) × (d ≢ pointer + 1)
 
--- The instructions that lead to the next one: arithmetic, moves, loads and stores, PUSH and POP. IN reads the ports of SP
--- and SREG alone, OUT writes that of SREG alone.
+-- The instructions that lead to the next one: arithmetic, moves, loads and stores, PUSH and POP. IN reads the ports of
+-- SP and SREG alone, OUT writes that of SREG alone.
 unfoldable pub IsStraight : Instr → Type 0
 IsStraight (Cpse d r) = ⊥
 IsStraight (Sbrc r b) = ⊥
@@ -66,8 +66,8 @@ IsSkip (Sbrc r b) = Unit {0}
 IsSkip (Sbrs r b) = Unit {0}
 IsSkip _ = ⊥
 
--- The instructions that a step runs: the straight ones, the skips, the branches, jumps, calls and RET, and also the OUT of SP's
--- bytes.
+-- The instructions that a step runs: the straight ones, the skips, the branches, jumps, calls and RET, and also the OUT
+-- of SP's bytes.
 unfoldable pub IsRunnable : Instr → Type 0
 IsRunnable (Cpse d r) = Unit {0}
 IsRunnable (Sbrc r b) = Unit {0}

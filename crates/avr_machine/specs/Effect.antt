@@ -116,8 +116,8 @@ goes_where true address = set_pc address ∷ []
 goes_where false address = []
 
 -- What the instruction changes, from a processor whose PC is already the address of the next instruction. `over` is the
--- address after that next instruction, where a skip goes. IJMP, ICALL, RETI, SLEEP, BREAK, WDR, SPM, the reads of flash and
--- the operations on one bit of a port have no effect here: no condition of this crate admits them.
+-- address after that next instruction, where a skip goes. IJMP, ICALL, RETI, SLEEP, BREAK, WDR, SPM, the reads of flash
+-- and the operations on one bit of a port have no effect here: no condition of this crate admits them.
 unfoldable pub writes : Instr → ℕ → Processor → List Write
 writes Nop over p = []
 writes (Add d r) over p = added p d (register p r) false

@@ -15,8 +15,8 @@ use mote_layout::{POINTER_X, POINTER_Y, POINTER_Z};
 impl Cpu {
     /// Runs an instruction that leads to the next one. PC stays.
     ///
-    /// The instructions come in the order of the table of opcodes; each function below takes the next lines, and passes the later
-    /// ones on. Here are those of two registers, or of a register and a constant.
+    /// The instructions come in the order of the table of opcodes; each function below takes the next lines, and passes
+    /// the later ones on. Here are those of two registers, or of a register and a constant.
     pub fn plain(&mut self, i: &Instr)
         requires operands { IsEncodable i.now }
         requires straight { IsStraight i.now }

@@ -68,8 +68,8 @@ abbrev pub generation : Option ℕ → Option ℕ → Bool → List (List ℕ) �
 generation None None false (seed ∷ []) = option_map (λ n. kinds.Generation n) (number_in 0 greatest_seed seed)
 generation _ _ _ _ = None
 
--- The command of that name with these limits, each where it is given, with the flag or without it, and with these operands.
--- `run` alone takes limits and the flag, and has limits of its own where none is given.
+-- The command of that name with these limits, each where it is given, with the flag or without it, and with these
+-- operands. `run` alone takes limits and the flag, and has limits of its own where none is given.
 abbrev pub kind_of : List ℕ → Option ℕ → Option ℕ → Bool → List (List ℕ) → Option Kind
 kind_of verb units handler words operands =
     if bytes_eq verb (codes "run")
@@ -118,8 +118,8 @@ value_of setting text = number_in 1 (greatest setting) text
 
 -- The rules.
 
--- What a word of a command says, or two of them: it is an operand, the flag, or an option with its value, in one word or in
--- two.
+-- What a word of a command says, or two of them: it is an operand, the flag, or an option with its value, in one word
+-- or in two.
 pub data Item : Type 0 where
   Operand : List ℕ → Item
   Flag : Item
@@ -198,8 +198,9 @@ abbrev pub all_operands : List Item → Option (List (List ℕ)) → List (List 
 all_operands items behind = operands items ++ unwrap_or behind []
 
 -- The words are this command. The first names it, and behind it stand operands and options in any order, and then maybe
--- the end of the options, behind which every word is an operand. Each option stands at most once, and so does the flag; its
--- command takes it; and the command takes as many files as its operands name, and `gen` the seed that its operand is.
+-- the end of the options, behind which every word is an operand. Each option stands at most once, and so does the flag;
+-- its command takes it; and the command takes as many files as its operands name, and `gen` the seed that its operand
+-- is.
 pub record IsCommand (words : List (List ℕ)) (command : Command) : Type 0 where
   pub verb : List ℕ
   pub items : List Item

@@ -59,9 +59,9 @@ pub enum Place {
 }
 
 /// Law: words are a command exactly where the rules of the command line say so, and then they are that one. The rules
-/// speak of operands, of options with their values and of the flag; the definition that reads the words from the left has
-/// neither more commands nor fewer. The limits of a run are in their ranges, whether they are given or not, and so is a
-/// seed.
+/// speak of operands, of options with their values and of the flag; the definition that reads the words from the left
+/// has neither more commands nor fewer. The limits of a run are in their ranges, whether they are given or not, and so
+/// is a seed.
 pub fn commands_are_by_rules()
     ensures rules { CommandsAreByRules }
     ensures limits { CommandsAreWithinLimits }

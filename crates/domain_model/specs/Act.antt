@@ -62,15 +62,15 @@ abbrev pub receives : Option Message → ℕ → Bool
 receives None id = false
 receives (Some m) id = m.to == id
 
--- Where the running domain may load, in a sealed image: below the memory, where it may store, in the block of its module's
--- constants, and in the message frame where its module is the receiver of the message in hand.
+-- Where the running domain may load, in a sealed image: below the memory, where it may store, in the block of its
+-- module's constants, and in the message frame where its module is the receiver of the message in hand.
 abbrev pub may_load : KernelState → Running → ℕ → Bool
 may_load k run address =
     permits_load k.blocks run.domain (receives k.hand (id_at k.modules run.domain)) (constants_at k.modules run.domain)
     k.processor.sp run.bound address
 
--- What the instruction of a unit does to the processor, stores too. It leads to the next instruction, so that neither the
--- program counter nor what stands behind that one matters.
+-- What the instruction of a unit does to the processor, stores too. It leads to the next instruction, so that neither
+-- the program counter nor what stands behind that one matters.
 abbrev pub plain_effect : Instr → Processor → Processor
 plain_effect i p = without_counter (effect i 0 (at_counter p 0))
 
@@ -82,7 +82,8 @@ store_address i p = unwrap_or (stored_by_mode i (at_counter p 0)) 0
 abbrev pub load_address : Instr → Processor → ℕ
 load_address i p = unwrap_or (loaded_by_mode i (at_counter p 0)) 0
 
--- A skip passes over the next instruction: it leads to where that one ends, which is 1 here, and not to where it begins, 0.
+-- A skip passes over the next instruction: it leads to where that one ends, which is 1 here, and not to where it
+-- begins, 0.
 abbrev pub passes : Instr → Processor → Bool
 passes i p = (effect i 1 (at_counter p 0)).pc == 1
 

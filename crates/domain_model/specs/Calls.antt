@@ -105,8 +105,9 @@ long_message_of k run = record (message_of k run) { byte = 0; word = 0; long = t
 abbrev pub carrying : Message → ℕ → Message
 carrying m block = record m { load = Some (record { block = block; len = m.len }) }
 
--- `post_long` answers as `post_short` does. Where it posts, the caller's block that begins at R19:R18 is the message's payload, and
--- the kernel's; else it stays the caller's. A block that isn't the caller's or hasn't so many bytes is refused first.
+-- `post_long` answers as `post_short` does. Where it posts, the caller's block that begins at R19:R18 is the message's
+-- payload, and the kernel's; else it stays the caller's. A block that isn't the caller's or hasn't so many bytes is
+-- refused first.
 abbrev pub long_where : Bool → Message → ℕ → KernelState → KernelState
 long_where true m address k =
     answered (record k {
@@ -127,8 +128,8 @@ abbrev pub post_long : KernelState → Running → Serving
 post_long k run =
     long_held (holds_bytes k.blocks run.domain (pair k.processor 18) (pair k.processor 20)) (long_message_of k run) (pair k.processor 18) k
 
--- `take` gives the receiver of the message in hand its payload, where it has one that was not taken, and answers the address.
--- The message has none any more. Else `take` answers 0.
+-- `take` gives the receiver of the message in hand its payload, where it has one that was not taken, and answers the
+-- address. The message has none any more. Else `take` answers 0.
 abbrev pub payload_taken : Option Payload → Message → Running → KernelState → KernelState
 payload_taken None m run k = answered k 0
 payload_taken (Some p) m run k =
@@ -145,8 +146,8 @@ take_hand (Some m) run k = take_by (m.to == id_at k.modules run.domain) m run k
 abbrev pub take_payload : KernelState → Running → KernelState
 take_payload k run = take_hand k.hand run k
 
--- The timer that the registers of a start ask for: with the id in R24, due after the ticks in R23:R22, and again each time where R20
--- isn't 0. It is the running module's.
+-- The timer that the registers of a start ask for: with the id in R24, due after the ticks in R23:R22, and again each
+-- time where R20 isn't 0. It is the running module's.
 abbrev pub timer_of : KernelState → Running → Timer
 timer_of k run =
     record {
@@ -157,8 +158,8 @@ timer_of k run =
       again = not (register k.processor 20 == 0);
     }
 
--- `timer_start` answers 2 where the ticks are 0, else 1 where as many others run as may, and else starts the timer, in the place of the
--- module's with its id, and answers 0.
+-- `timer_start` answers 2 where the ticks are 0, else 1 where as many others run as may, and else starts the timer, in
+-- the place of the module's with its id, and answers 0.
 abbrev pub start_answer : Timer → List Timer → ℕ
 start_answer t timers =
     if t.ticks == 0 then 2 else (if nat_lt (length (without_timer t.«module» t.id timers)) timer_limit then 0 else 1)
@@ -179,9 +180,9 @@ stopped_timer «module» id k =
 abbrev pub timer_stop : KernelState → Running → KernelState
 timer_stop k run = stopped_timer (id_at k.modules run.domain) (register k.processor 24) k
 
--- `send` writes a packet's line and answers 0: for R25:R24, of the type in R22, with as many bytes as R21:R20 says of the caller's
--- block that begins at R19:R18. The block stays. It answers 1 where they are too many for a packet. A block that isn't the
--- caller's or hasn't so many bytes is refused first.
+-- `send` writes a packet's line and answers 0: for R25:R24, of the type in R22, with as many bytes as R21:R20 says of
+-- the caller's block that begins at R19:R18. The block stays. It answers 1 where they are too many for a packet. A
+-- block that isn't the caller's or hasn't so many bytes is refused first.
 abbrev pub send_within : Bool → KernelState → Running → Serving
 send_within true k run =
     comes_back (answered k 0) (line.Send k.clock (id_at k.modules run.domain) (pair k.processor 24) (register k.processor 22)

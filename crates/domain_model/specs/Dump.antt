@@ -1,5 +1,5 @@
--- What a dump prints: the modules by their domains, the blocks by their addresses, the messages that wait in the order in which they are
--- taken, the timers in the order in which they fire.
+-- What a dump prints: the modules by their domains, the blocks by their addresses, the messages that wait in the order
+-- in which they are taken, the timers in the order in which they fire.
 use Rattle.std.specs.Prelude.{ℕ, zero, suc, ◌*◌, ◌==◌, List, [], ◌∷◌, ◌++◌, map, Bool, true, false, Option, Some, None, if◌then◌else◌}
 use Rattle.mote_base.specs.declared.timer.Timer.{Timer}
 use Rattle.mote_layout.specs.Memory.{block_bytes, domain_count, kernel}

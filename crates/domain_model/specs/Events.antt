@@ -1,5 +1,5 @@
--- The lines of a script in two lists, each in the script's order: the packets that come by radio, and the events that are for the
--- loader. The first of each is the next of its kind.
+-- The lines of a script in two lists, each in the script's order: the packets that come by radio, and the events that
+-- are for the loader. The first of each is the next of its kind.
 use Rattle.std.specs.Prelude.{ℕ, nat_le, min, Option, Some, None, slice_get, Bool, false, List, [], ◌∷◌, map}
 use Rattle.mote_base.specs.declared.timer.Timer.{Timer}
 use Rattle.domain_model.specs.declared.event.LoaderEvent.{LoaderEvent}

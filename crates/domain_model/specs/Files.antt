@@ -20,15 +20,16 @@ BeginAt places [] (number ∷ numbers) = ⊥
 BeginAt places (word ∷ words) [] = ⊥
 BeginAt places (word ∷ words) (number ∷ numbers) = (number < length places) × (slice_index places number ≡ word) × BeginAt places words numbers
 
--- The code of an image that no rewriter made is refused by no condition; these are its units, and the units with these numbers begin at
--- the words of the marks.
+-- The code of an image that no rewriter made is refused by no condition; these are its units, and the units with these
+-- numbers begin at the words of the marks.
 pub record AreReadFrom (units : List Unit) (numbers : List ℕ) (c : Contents) : Type 0 where
   pub original : c.rewritten ≡ false
   pub accepted : NoneHolds c.code (marks_of c) c.sealed
   pub are : units ≡ units_of c.code c.sealed
   pub entered : BeginAt (places_of c.code) (marks_of c) numbers
 
--- The words of a rewriter's image spell these units and no others, and the templates of the units with these numbers start at the marks.
+-- The words of a rewriter's image spell these units and no others, and the templates of the units with these numbers
+-- start at the marks.
 pub record AreSpelledIn (units : List Unit) (numbers : List ℕ) (c : Contents) : Type 0 where
   pub rewritten : c.rewritten ≡ true
   pub starts : List ℕ
@@ -40,9 +41,9 @@ pub record AreSpelledIn (units : List Unit) (numbers : List ℕ) (c : Contents) 
 abbrev pub AreUnitsOf : List Unit → List ℕ → Contents → Type 0
 AreUnitsOf units numbers c = AreReadFrom units numbers c ⊎ AreSpelledIn units numbers c
 
--- The module of an image whose code is not refused: it shows the image's face, asks for its state, has its constants and is sealed
--- where it is; its units are those of the code, its handler begins at the handler word, and each function that it provides
--- at that function's word.
+-- The module of an image whose code is not refused: it shows the image's face, asks for its state, has its constants
+-- and is sealed where it is; its units are those of the code, its handler begins at the handler word, and each function
+-- that it provides at that function's word.
 pub record IsModuleOf (m : Module) (c : Contents) : Type 0 where
   pub code : AreUnitsOf m.units (m.handler ∷ m.entries) c
   pub face : m.face ≡ c.face

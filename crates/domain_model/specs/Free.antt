@@ -38,8 +38,8 @@ pub record SameState (free : ℕ → Bool) (want got : State) : Type 0 where
   pub kernel : SameKernel free want.kernel got.kernel
   pub rest : got ≡ record want { kernel = got.kernel }
 
--- A unit enters the kernel where it is a kernel call or a call of a slot, where it returns to another domain's call, where it faults,
--- and where it ends the handler.
+-- A unit enters the kernel where it is a kernel call or a call of a slot, where it returns to another domain's call,
+-- where it faults, and where it ends the handler.
 abbrev pub calls_kernel : Option Unit → Bool
 calls_kernel None = true
 calls_kernel (Some (KernelCall n)) = true

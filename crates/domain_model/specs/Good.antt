@@ -44,8 +44,8 @@ abbrev pub IsBlockOrNone : ℕ → Type 0
 IsBlockOrNone address = (address ≡ 0) ⊎ ((block : ℕ) × (block < block_count) × (address ≡ block_address block))
 
 -- A module's face keeps the rules of its fields (its id is 1 to 254), its domain is a domain, its state's address is a
--- word, its constants begin with a block, and the units in its bank are proper, with checked loads where it is sealed, and have its
--- handler and its functions.
+-- word, its constants begin with a block, and the units in its bank are proper, with checked loads where it is sealed,
+-- and have its handler and its functions.
 pub record GoodModule (r : RunnerState) (m : Loaded) : Type 0 where
   pub face : FaceRules m.face
   pub domain : m.domain < domain_count
@@ -69,8 +69,9 @@ IsOwned modules b = (b.owner ≡ kernel) ⊎ (in_use modules b.owner ≡ true)
 abbrev pub AreOwned : List Loaded → List Segment → Type 0
 AreOwned modules blocks = AllByRecursion (IsOwned modules) blocks
 
--- A frame and what runs above it: its domain is loaded and goes on at one of its units; behind the base of what runs above stand the
--- two bytes of the call; and where the domain called itself within, its domain and bound are those above it.
+-- A frame and what runs above it: its domain is loaded and goes on at one of its units; behind the base of what runs
+-- above stand the two bytes of the call; and where the domain called itself within, its domain and bound are those
+-- above it.
 pub record IsBelow (modules : List Loaded) (banks : List (List Unit)) (above : Running) (f : Frame) : Type 0 where
   pub loaded : in_use modules f.domain ≡ true
   pub back : f.back < length (slice_index_or banks f.domain [])
@@ -84,8 +85,8 @@ abbrev pub AreFrames : List Loaded → List (List Unit) → Running → List Fra
 AreFrames modules banks run [] = (run.base ≡ stack_top) × (run.bound ≡ stack_top)
 AreFrames modules banks run (f ∷ below) = IsBelow modules banks run f × AreFrames modules banks (resumed f) below
 
--- In a handler a loaded domain runs, its next unit is one of its units, the stack pointer lies between the floor and the base,
--- and no more calls wait than there is room for.
+-- In a handler a loaded domain runs, its next unit is one of its units, the stack pointer lies between the floor and
+-- the base, and no more calls wait than there is room for.
 pub record GoodRunning (k : KernelState) (r : RunnerState) (run : Running) : Type 0 where
   pub loaded : in_use k.modules run.domain ≡ true
   pub unit : r.unit < length (bank r run.domain)
@@ -96,7 +97,8 @@ pub record GoodRunning (k : KernelState) (r : RunnerState) (run : Running) : Typ
   pub depth : length k.frames ≤ frame_limit
   pub frames : AreFrames k.modules r.banks run k.frames
 
--- The numbers of a message fit their places in the message frame: all are bytes, but the word, the length and the address are two.
+-- The numbers of a message fit their places in the message frame: all are bytes, but the word, the length and the
+-- address are two.
 pub record IsFramed (m : Message) : Type 0 where
   pub to : m.to < 256
   pub from : m.from < 256
@@ -106,7 +108,8 @@ pub record IsFramed (m : Message) : Type 0 where
   pub len : m.len < 2 ^ 16
   pub address : payload_address m.load < 2 ^ 16
 
--- A message's receiver is loaded, its sender is the kernel, the radio or loaded, and a payload has as many bytes as it says.
+-- A message's receiver is loaded, its sender is the kernel, the radio or loaded, and a payload has as many bytes as it
+-- says.
 pub record IsKnown (modules : List Loaded) (m : Message) : Type 0 where
   pub receiver : is_loaded modules m.to ≡ true
   pub sender : ((m.from ≡ 0) ⊎ (m.from ≡ radio)) ⊎ (is_loaded modules m.from ≡ true)
@@ -193,8 +196,8 @@ pub record IsPacket (p : Packet) : Type 0 where
 abbrev pub ArePackets : List Packet → Type 0
 ArePackets packets = AllByRecursion IsPacket packets
 
--- The clock has jumped to a timer's moment, and no unit ran since: the running handler has run none, or outside a handler a message
--- waits or a timer is due.
+-- The clock has jumped to a timer's moment, and no unit ran since: the running handler has run none, or outside a
+-- handler a message waits or a timer is due.
 abbrev pub ahead_by : Option Running → State → Bool
 ahead_by None s = is_some (front s.kernel.queues) || is_due (timer_times s.kernel.timers) s.kernel.clock
 ahead_by (Some run) s = s.spent == 0
@@ -202,8 +205,8 @@ ahead_by (Some run) s = s.spent == 0
 abbrev pub is_ahead : State → Bool
 is_ahead s = ahead_by s.kernel.running s
 
--- The latest that the clock can be after so many units: each unit may stand behind a jump to a timer's moment, and behind the last one
--- there may be a further jump.
+-- The latest that the clock can be after so many units: each unit may stand behind a jump to a timer's moment, and
+-- behind the last one there may be a further jump.
 abbrev pub latest : ℕ → Bool → ℕ
 latest total ahead = 2 ^ 32 + (longest_wait + 1) * total + (if ahead then longest_wait else 0)
 

@@ -45,8 +45,8 @@ MayChange k run address = (owns k.blocks run.domain address ≡ true) ⊎ ((red_
 abbrev pub crossings : List Frame → List Frame
 crossings frames = filter (λ (f : Frame). f.cross) frames
 
--- What ran goes on in its domain, up to its bound, and no call into another domain is made or comes back. (The base moves with calls
--- within the domain.)
+-- What ran goes on in its domain, up to its bound, and no call into another domain is made or comes back. (The base
+-- moves with calls within the domain.)
 pub record StaysWithin (k : KernelState) (run : Running) (new : KernelState) (after : Running) : Type 0 where
   pub domain : after.domain ≡ run.domain
   pub bound : after.bound ≡ run.bound
@@ -68,8 +68,8 @@ abbrev pub MayChangeAtFault : KernelState → ℕ → Type 0
 MayChangeAtFault k address =
     ((red_zone_start ≤ address) × (address ≤ k.processor.sp)) ⊎ ((kernel_bytes_start ≤ address) × (address ≤ kernel_bytes_end))
 
--- A unit that is no entry of the kernel changes what is the running domain's and nothing else, and no units in any bank;
--- and a unit that faults changes none of the domains' bytes.
+-- A unit that is no entry of the kernel changes what is the running domain's and nothing else, and no units in any
+-- bank; and a unit that faults changes none of the domains' bytes.
 pub record Confined (s t : State) : Type 0 where
   pub between : (run : Running) → choice s ≡ Acts run → enters_kernel s.kernel s.runner ≡ false → KeepsOthers s.kernel run t.kernel
   pub units : (run : Running) → choice s ≡ Acts run → enters_kernel s.kernel s.runner ≡ false → t.runner.banks ≡ s.runner.banks
@@ -93,8 +93,8 @@ slot_of (Some (SlotCall slot)) p = Some slot
 slot_of (Some SlotIndirect) p = indirect_slot p
 slot_of _ p = None
 
--- A unit calls a slot that is bound, and enters its provider at the unit of its function. What called is kept as a frame, and what is
--- entered has the stack from where it stands then: it may neither pop nor store above.
+-- A unit calls a slot that is bound, and enters its provider at the unit of its function. What called is kept as a
+-- frame, and what is entered has the stack from where it stands then: it may neither pop nor store above.
 pub record EntersBound (s t : State) (old new : Running) : Type 0 where
   pub acts : choice s ≡ Acts old
   pub slot : ℕ
@@ -136,8 +136,8 @@ Crosses s t = CrossesBy s t s.kernel.running t.kernel.running
 
 -- Clean unload.
 
--- Something still names the module or its domain. A slot does where it is bound to a function in the domain, and a block of the
--- kernel's where it is lost: no message names it, and it is no loaded module's constants.
+-- Something still names the module or its domain. A slot does where it is bound to a function in the domain, and a
+-- block of the kernel's where it is lost: no message names it, and it is no loaded module's constants.
 pub data Names (k : KernelState) (id domain : ℕ) : Type 0 where
   a_module : (m : Loaded) → Contains k.modules m → (m.face.id ≡ id) ⊎ (m.domain ≡ domain) → Names k id domain
   a_slot : (d i p place : ℕ) → bound_slot (seats k.modules) d i ≡ Some (p, place) → p ≡ domain → Names k id domain
@@ -154,7 +154,8 @@ abbrev pub UnloadsCleanly : State → State → List TraceLine → Type 0
 UnloadsCleanly s t lines =
     (time : ℕ) (m : Loaded) → Contains lines (line.Unload time m.face.id) → Contains s.kernel.modules m → ¬ Names t.kernel m.face.id m.domain
 
--- The lines say that the module with an id is unloaded. A turn unloads two where the last handler of one is ended by another's fault.
+-- The lines say that the module with an id is unloaded. A turn unloads two where the last handler of one is ended by
+-- another's fault.
 abbrev pub tells_unload : ℕ → TraceLine → Bool
 tells_unload id (line.Unload time other) = other == id
 tells_unload id _ = false
@@ -166,9 +167,9 @@ is_gone lines id = list_any (tells_unload id) lines
 abbrev pub without_gone : List TraceLine → List Message → List Message
 without_gone lines messages = filter (λ (m : Message). not (is_gone lines m.from || is_gone lines m.to)) messages
 
--- The modules that aren't gone stay in their order, each with the block of its constants, and so do their timers, and the messages that
--- name none that is, each with the block of its payload; their domains have the blocks that they had, and no other has any; and the bytes in
--- the blocks stay.
+-- The modules that aren't gone stay in their order, each with the block of its constants, and so do their timers, and
+-- the messages that name none that is, each with the block of its payload; their domains have the blocks that they had,
+-- and no other has any; and the bytes in the blocks stay.
 pub record KeepsTheRest (k : KernelState) (lines : List TraceLine) (new : KernelState) : Type 0 where
   pub modules : new.modules ≡ filter (λ (m : Loaded). not (is_gone lines m.face.id)) k.modules
   pub high : new.queues.high ≡ without_gone lines k.queues.high
@@ -202,8 +203,9 @@ pub data IsOneMore (old : Lists Message) : Lists Message → Type 0 where
   none_more : IsOneMore old old
   one_more : (m : Message) → m.from ≡ radio → m.high ≡ false → IsOneMore old (appended false m old)
 
--- What a packet leaves that comes, in a handler and outside: all registers, SREG and SP; every owner's blocks, with the bytes in them; what
--- waits; and all else but the packets that are to come. It brings one message at most, and a block of the kernel's that nobody had.
+-- What a packet leaves that comes, in a handler and outside: all registers, SREG and SP; every owner's blocks, with the
+-- bytes in them; what waits; and all else but the packets that are to come. It brings one message at most, and a block
+-- of the kernel's that nobody had.
 pub record Interrupted (s t : State) : Type 0 where
   pub processor : t.kernel.processor ≡ record s.kernel.processor { memory = t.kernel.processor.memory }
   pub memory : (i : ℕ) → slice_index t.kernel.processor.memory i ≢ slice_index s.kernel.processor.memory i → ((kernel_bytes_start ≤ i + ram_start) × (i + ram_start ≤ kernel_bytes_end)) ⊎ IsNewlyKernels s.kernel t.kernel (i + ram_start)
@@ -213,13 +215,15 @@ pub record Interrupted (s t : State) : Type 0 where
   pub kernel_rest : t.kernel ≡ record s.kernel { processor = t.kernel.processor; blocks = t.kernel.blocks; queues = t.kernel.queues }
   pub rest : t ≡ record s { kernel = t.kernel; packets = drop 1 s.packets }
 
--- One short message more waits, in the high list where it has room: a timer's, for its module and with its id; else none more.
+-- One short message more waits, in the high list where it has room: a timer's, for its module and with its id; else
+-- none more.
 pub data IsOneReminder (old : Lists Message) (timer : Timer) : Lists Message → Type 0 where
   none_more : queue_limit ≤ length old.high → IsOneReminder old timer old
   one_more : length old.high < queue_limit → (m : Message) → m.to ≡ timer.«module» → m.from ≡ 0 → m.sort ≡ reminder_sort → m.byte ≡ timer.id → m.word ≡ 0 → m.long ≡ false → m.load ≡ None → IsOneReminder old timer (appended true m old)
 
--- What a timer leaves that fires, in a handler and outside: the processor but for the kernel's bytes, all blocks, and all else but
--- the high list and the timers. It is due and none fires before it, and it doesn't fire again at this time.
+-- What a timer leaves that fires, in a handler and outside: the processor but for the kernel's bytes, all blocks, and
+-- all else but the high list and the timers. It is due and none fires before it, and it doesn't fire again at this
+-- time.
 pub record Reminded (s t : State) : Type 0 where
   pub timer : Timer
   pub first : slice_get s.kernel.timers 0 ≡ Some timer
@@ -245,13 +249,14 @@ pub record LiesIn (blocks : List Segment) (block : ℕ) (s : Segment) : Type 0 w
   pub to : block < s.first + s.count
   pub alone : (t : Segment) → Contains blocks t → t.first ≤ block → block < t.first + t.count → t ≡ s
 
--- What names a segment: so many messages, of those that wait and the one in hand, and so many loaded modules as their constants.
+-- What names a segment: so many messages, of those that wait and the one in hand, and so many loaded modules as their
+-- constants.
 pub record IsNamedBy (k : KernelState) (messages modules : ℕ) (s : Segment) : Type 0 where
   pub by_messages : namings s.first k.queues k.hand ≡ messages
   pub by_modules : naming_kept s.first (constants_kept k.modules) ≡ modules
 
--- A block of the heap is free; or it is a loaded domain's, and nothing names it; or it is the kernel's, and exactly one message carries
--- it, once; or it is the kernel's, and is the constants of exactly one loaded module.
+-- A block of the heap is free; or it is a loaded domain's, and nothing names it; or it is the kernel's, and exactly one
+-- message carries it, once; or it is the kernel's, and is the constants of exactly one loaded module.
 pub data HasOneHolder (k : KernelState) (block : ℕ) : Type 0 where
   is_free : AreFree k.blocks block 1 → HasOneHolder k block
   is_owned : (s : Segment) → LiesIn k.blocks block s → in_use k.modules s.owner ≡ true → IsNamedBy k 0 0 s → HasOneHolder k block
@@ -282,8 +287,8 @@ LawfulRunFrom s lines = RunBy LawfulTurn s lines
 abbrev pub CounterComesBack : Type 0
 CounterComesBack = (c : CountingProcessor) → at_counter (without_counter c) c.pc ≡ c
 
--- Wherever the program counter stands and whatever follows, an instruction that leads to the next one leaves the counter
--- and does what it does as a unit.
+-- Wherever the program counter stands and whatever follows, an instruction that leads to the next one leaves the
+-- counter and does what it does as a unit.
 abbrev pub UnitsActAsInstructions : Type 0
 UnitsActAsInstructions = (i : Instr) (over address : ℕ) (p : Processor) → IsStraight i
     → effect i over (at_counter p address) ≡ at_counter (plain_effect i p) address
@@ -300,13 +305,14 @@ abbrev pub skipped : Bool → ℕ → ℕ → ℕ
 skipped true over address = over
 skipped false over address = address
 
--- Wherever the program counter stands, a skip goes behind the next instruction where its unit passes over the next one, and
--- changes nothing else.
+-- Wherever the program counter stands, a skip goes behind the next instruction where its unit passes over the next one,
+-- and changes nothing else.
 abbrev pub SkipsPassAsInstructions : Type 0
 SkipsPassAsInstructions = (i : Instr) (over address : ℕ) (p : Processor) → IsSkip i
     → effect i over (at_counter p address) ≡ at_counter p (skipped (passes i p) over address)
 
--- A unit that ends the handler, by its return or by a fault, changes nothing and writes nothing: the turn does the rest.
+-- A unit that ends the handler, by its return or by a fault, changes nothing and writes nothing: the turn does the
+-- rest.
 abbrev pub LastUnitsChangeNothing : Type 0
 LastUnitsChangeNothing = (k : KernelState) (r : RunnerState) → ends_handler (act k r).ending ≡ true
     → ((act k r).kernel ≡ k) × ((act k r).runner ≡ r) × ((act k r).lines ≡ [])
@@ -323,7 +329,8 @@ RunsAreLawful = (s : State) (lines : List TraceLine) → Good s → RunFrom s li
 abbrev pub FewerTurnsRemain : Type 0
 FewerTurnsRemain = (s t : State) (lines : List TraceLine) → Good s → s.ended ≡ More → Turn s t lines → remaining t < remaining s
 
--- In every state that turns lead to from a good one, each block of the heap has one holder: none is lost, and none has two.
+-- In every state that turns lead to from a good one, each block of the heap has one holder: none is lost, and none has
+-- two.
 abbrev pub NoBlockIsLost : Type 0
 NoBlockIsLost = (s t : State) (block : ℕ) → Good s → Reaches s t → block < block_count → HasOneHolder t.kernel block
 

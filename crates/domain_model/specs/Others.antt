@@ -1,5 +1,5 @@
--- What a kernel call leaves as it was: everything but its answer, the queues, the caller's own blocks and timers, and the payload that it
--- takes.
+-- What a kernel call leaves as it was: everything but its answer, the queues, the caller's own blocks and timers, and
+-- the payload that it takes.
 use Rattle.std.specs.Prelude.{◌≡◌, ◌≢◌, ◌⊎◌, ℕ, ◌+◌, [], length, slice_index, true, false, Option, Some, None}
 use Rattle.mote_base.specs.Timers.{without_module}
 use Rattle.mote_layout.specs.Memory.{ram_start, ram_bytes, kernel}
@@ -31,10 +31,10 @@ pub record TakesPayload (k : KernelState) (run : Running) (new : KernelState) : 
   pub load : message.load ≡ Some payload
   pub without : new.hand ≡ Some (record message { load = None })
 
--- All registers stay but R25:R24, SREG and SP stay, and each byte that changes was given out. Every other owner keeps its blocks, but for
--- the kernel's where the caller takes a payload, which the caller has then; and what another owner has besides was the caller's. Every
--- other module keeps its timers. The clock, the modules, what runs, the frames and the module that ends stay, and so does the message in
--- hand but for a payload that is taken.
+-- All registers stay but R25:R24, SREG and SP stay, and each byte that changes was given out. Every other owner keeps
+-- its blocks, but for the kernel's where the caller takes a payload, which the caller has then; and what another owner
+-- has besides was the caller's. Every other module keeps its timers. The clock, the modules, what runs, the frames and
+-- the module that ends stay, and so does the message in hand but for a payload that is taken.
 pub record LeavesOthers (k : KernelState) (run : Running) (new : KernelState) : Type 0 where
   pub registers : (d : ℕ) → d ≢ 24 → d ≢ 25 → register new.processor d ≡ register k.processor d
   pub status : (new.processor.sreg ≡ k.processor.sreg) × (new.processor.sp ≡ k.processor.sp)

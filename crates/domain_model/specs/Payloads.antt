@@ -42,7 +42,8 @@ naming_in block (m ∷ ms) = naming_of block m.load + naming_in block ms
 abbrev pub namings : ℕ → Lists Message → Option Message → ℕ
 namings block queues hand = naming_in block queues.high + naming_in block queues.low + naming_of block (load_of hand)
 
--- What begins at a module's address of constants, as a parcel; none at 0. How many of its bytes are constants is not kept.
+-- What begins at a module's address of constants, as a parcel; none at 0. How many of its bytes are constants is not
+-- kept.
 abbrev pub kept_at : ℕ → Option Payload
 kept_at address = if address == 0 then None else Some (record { block = block_of address; len = 0 })
 
@@ -63,8 +64,8 @@ IsHeld ss (Some p) = IsParcelOf ss p
 abbrev pub HasHeld : List Segment → Message → Type 0
 HasHeld ss m = IsHeld ss m.load
 
--- The kernel's blocks are exactly the payloads of the messages that wait and the one in hand that was not taken, and what is kept
--- beside the messages, each once; and a payload is no longer than its block.
+-- The kernel's blocks are exactly the payloads of the messages that wait and the one in hand that was not taken, and
+-- what is kept beside the messages, each once; and a payload is no longer than its block.
 pub record HoldsPayloads (ss : List Segment) (queues : Lists Message) (hand : Option Message) (kept : List (Option Payload)) : Type 0 where
   pub once : (block : ℕ) → kernel_entries block ss ≡ namings block queues hand + naming_kept block kept
   pub high : AllByRecursion (HasHeld ss) queues.high

@@ -77,8 +77,8 @@ abbrev pub prepared_code : Contents → Option CodeError → Prep
 prepared_code c (Some e) = Err (Code e)
 prepared_code c None = Ok (module_of c (listed c.code (marks_of c) c.sealed))
 
--- What is told of rewritten words that are not refused: the units that they spell, where each unit's template starts, and the
--- numbers of the units whose templates start at the marks.
+-- What is told of rewritten words that are not refused: the units that they spell, where each unit's template starts,
+-- and the numbers of the units whose templates start at the marks.
 unfoldable pub spelled : List ℕ → List ℕ → Listing
 spelled words marks = record {
   units = units_in words;

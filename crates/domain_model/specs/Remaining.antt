@@ -34,9 +34,10 @@ goes_on More = true
 goes_on EndIdle = false
 goes_on EndBudget = false
 
--- A message pays for the start of its handler, and a timer that is due for its message too. At most sixteen timers are due after a jump
--- of the clock, so it costs 33; the end of a handler, behind which the clock may jump, 34; a line of the script, for its message and the
--- jump behind it, 35; and a unit 68, for itself, its message, all timers, and the end of its handler.
+-- A message pays for the start of its handler, and a timer that is due for its message too. At most sixteen timers are
+-- due after a jump of the clock, so it costs 33; the end of a handler, behind which the clock may jump, 34; a line of
+-- the script, for its message and the jump behind it, 35; and a unit 68, for itself, its message, all timers, and the
+-- end of its handler.
 unfoldable pub remaining : State → ℕ
 remaining s =
     68 * (s.unit_limit - s.total) + 35 * length s.packets + 35 * length s.events + 2 * due_count s.kernel.clock s.kernel.timers

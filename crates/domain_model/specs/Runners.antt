@@ -9,8 +9,8 @@ use Rattle.domain_model.specs.declared.line.TraceLine.TheVariants as line
 use Rattle.domain_model.specs.State.{KernelState, RunnerState}
 use Rattle.domain_model.specs.Act.{Acted}
 
--- Code that a runner may be given: proper units, of an image that is sealed or of one that isn't, and words that fit a bank of
--- flash and spell these units, with the start of each one's template.
+-- Code that a runner may be given: proper units, of an image that is sealed or of one that isn't, and words that fit a
+-- bank of flash and spell these units, with the start of each one's template.
 pub record IsPlaceable (code : BankListing) : Type 0 where
   pub sealed : Bool
   pub spelled : Spells code.words [] sealed code.units code.starts

@@ -1,8 +1,8 @@
 -- The kernel calls by their numbers.
 use Rattle.std.specs.Prelude.{◌==◌, ℕ, if◌then◌else◌, Option, Some, None}
 
--- Give a block, free one, hand one to another module, post a short message, post a block, take the block that came, start a timer,
--- stop one, say a byte, tell the clock, send bytes, tell the module's own id.
+-- Give a block, free one, hand one to another module, post a short message, post a block, take the block that came,
+-- start a timer, stop one, say a byte, tell the clock, send bytes, tell the module's own id.
 pub data Service : Type 0 where
   Malloc : Service
   Free : Service

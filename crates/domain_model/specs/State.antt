@@ -37,13 +37,14 @@ pub record Processor : Type 0 where
 abbrev pub radio : ℕ
 radio = 255
 
--- A message. Its payload, if it has one, is a block of the kernel's. A message in hand has none any more once its payload was taken.
+-- A message. Its payload, if it has one, is a block of the kernel's. A message in hand has none any more once its
+-- payload was taken.
 abbrev pub Message : Type 0
 Message = Msg Payload
 
--- A module that is loaded: what it shows to others, its domain, the address of its state block and that of its constants, each
--- 0 where it has none, the unit at which a dispatch starts, the units at which the functions that it provides begin, and
--- whether its loads are checked.
+-- A module that is loaded: what it shows to others, its domain, the address of its state block and that of its
+-- constants, each 0 where it has none, the unit at which a dispatch starts, the units at which the functions that it
+-- provides begin, and whether its loads are checked.
 pub record Loaded : Type 0 where
   pub face : Face
   pub domain : ℕ
@@ -53,10 +54,11 @@ pub record Loaded : Type 0 where
   pub entries : List ℕ
   pub sealed : Bool
 
--- What the kernel keeps: the clock, the processor, the owned blocks of the heap, the loaded modules in the
--- order of their loads, the messages that wait, the timers in the order in which they fire, the domain that runs, the frames of the calls that have not returned with the
--- last call first, the message in hand, and the id of the module whose last message that is. Outside a handler no domain runs,
--- there is no frame, no message is in hand and no module ends, and the registers, SREG and SP mean nothing.
+-- What the kernel keeps: the clock, the processor, the owned blocks of the heap, the loaded modules in the order of
+-- their loads, the messages that wait, the timers in the order in which they fire, the domain that runs, the frames of
+-- the calls that have not returned with the last call first, the message in hand, and the id of the module whose last
+-- message that is. Outside a handler no domain runs, there is no frame, no message is in hand and no module ends, and
+-- the registers, SREG and SP mean nothing.
 pub record KernelState : Type 0 where
   pub clock : ℕ
   pub processor : Processor
@@ -75,7 +77,8 @@ pub record RunnerState : Type 0 where
   pub banks : List (List Unit)
   pub unit : ℕ
 
--- The whole: kernel and runner; what the images came to, by number; the script's packets still to come, and its events for the loader; how many units a run and a handler may have, and have had; how the run stands.
+-- The whole: kernel and runner; what the images came to, by number; the script's packets still to come, and its events
+-- for the loader; how many units a run and a handler may have, and have had; how the run stands.
 pub record State : Type 0 where
   pub kernel : KernelState
   pub runner : RunnerState
@@ -143,15 +146,16 @@ abbrev pub payload_address : Option Payload → ℕ
 payload_address None = 0
 payload_address (Some p) = block_address p.block
 
--- The message frame as a handler finds it: type, sender, receiver, 1 for a long message and 0 for a short one, the byte and the
--- word of a short message, the length and the address of the payload of a long one, and zeros. Each word stands low byte first.
+-- The message frame as a handler finds it: type, sender, receiver, 1 for a long message and 0 for a short one, the byte
+-- and the word of a short message, the length and the address of the payload of a long one, and zeros. Each word stands
+-- low byte first.
 abbrev pub frame_of : Message → List ℕ
 frame_of m =
     m.sort ∷ m.from ∷ m.to ∷ (if m.long then 1 else 0) ∷ m.byte ∷ low m.word ∷ high m.word ∷ low m.len ∷ high m.len
     ∷ low (payload_address m.load) ∷ high (payload_address m.load) ∷ replicate 5 0
 
--- The processor as a handler finds it: R21:R20 is the address of the module's constants, R23:R22 that of the message frame,
--- R25:R24 that of the module's state block, every other register and SREG are 0, and the stack is empty.
+-- The processor as a handler finds it: R21:R20 is the address of the module's constants, R23:R22 that of the message
+-- frame, R25:R24 that of the module's state block, every other register and SREG are 0, and the stack is empty.
 abbrev pub dispatched : Processor → ℕ → ℕ → Message → Processor
 dispatched p state constants m =
     with_pair (with_pair (with_pair (record {

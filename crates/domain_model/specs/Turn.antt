@@ -43,7 +43,8 @@ state_where false k domain size = given k domain size
 abbrev pub state_block : KernelState → ℕ → ℕ → Option Given
 state_block k domain size = state_where (size == 0) k domain size
 
--- The block of a module's constants: it is the kernel's, and has zeros behind them. A module without constants has none.
+-- The block of a module's constants: it is the kernel's, and has zeros behind them. A module without constants has
+-- none.
 abbrev pub constants_given : Option Given → List ℕ → Option Given
 constants_given None constants = None
 constants_given (Some g) constants = Some (filled_with constants g)
@@ -59,7 +60,8 @@ constants_block k constants = constants_where (length constants == 0) k constant
 abbrev pub admitted : KernelState → Loaded → Given → KernelState
 admitted k m g = record (with_given k g) { modules = k.modules ++ m ∷ [] }
 
--- the handler of the module in a domain, with its state block and its constants at these addresses, starts with a message
+-- the handler of the module in a domain, with its state block and its constants at these addresses, starts with a
+-- message
 abbrev pub begun : KernelState → ℕ → ℕ → ℕ → Message → KernelState
 begun k domain state constants m =
     record k {
@@ -72,8 +74,8 @@ begun k domain state constants m =
 abbrev pub handler_ended : KernelState → KernelState
 handler_ended k = record k { running = None; frames = []; hand = None; blocks = without_load (load_of k.hand) k.blocks }
 
--- The module with an id in a domain is out: its row, the block of its constants, every block of its domain, every message from or to it
--- with its payload, and its timers.
+-- The module with an id in a domain is out: its row, the block of its constants, every block of its domain, every
+-- message from or to it with its payload, and its timers.
 abbrev pub purged : KernelState → ℕ → ℕ → KernelState
 purged k id domain =
     record k {
@@ -103,8 +105,8 @@ entered r unit = record r { unit = unit }
 
 -- Which turn comes next: the first of these that applies.
 
--- Outside a handler: an event that is due for the loader; else the first message; else the clock jumps to the next line of the
--- script or to the next timer's moment; else the run ends.
+-- Outside a handler: an event that is due for the loader; else the first message; else the clock jumps to the next line
+-- of the script or to the next timer's moment; else the run ends.
 abbrev pub choose_time : Option ℕ → Choice
 choose_time (Some time) = Jumps time
 choose_time None = Idles
@@ -204,9 +206,10 @@ loaded m domain state g k r =
       lines = line.Load k.clock m.face.id domain state ∷ line.Run k.clock m.face.id 0 0 ∷ [];
     }
 
--- A file that holds no module is refused as 1 where it is no image, as 2 where its code has no units, and as 3 where a rewriter's
--- words spell none. Else a load is refused as 4 where a module with the id is loaded, else as 5 where no domain is free, else as 6
--- where no run of blocks is long enough for the state, or none beside it for the constants: then neither is given.
+-- A file that holds no module is refused as 1 where it is no image, as 2 where its code has no units, and as 3 where a
+-- rewriter's words spell none. Else a load is refused as 4 where a module with the id is loaded, else as 5 where no
+-- domain is free, else as 6 where no run of blocks is long enough for the state, or none beside it for the constants:
+-- then neither is given.
 abbrev pub load_beside : Option Given → ℕ → Module → ℕ → ℕ → KernelState → RunnerState → Moved
 load_beside None state m domain image k r = refused 6 image k r
 load_beside (Some g) state m domain image k r = loaded m domain state g k r

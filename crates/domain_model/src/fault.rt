@@ -27,8 +27,8 @@ pub enum Rule {
 #[derive(Clone, Copy, Debug, PartialEq, Eq)]
 pub struct FaultNote {
     pub rule: Rule,
-    /// The refused address of a store or a load; the stack pointer that a group wants; the block's address that isn't the
-    /// caller's; Z for an indirect call of no slot; and the stack pointer for all others.
+    /// The refused address of a store or a load; the stack pointer that a group wants; the block's address that isn't
+    /// the caller's; Z for an indirect call of no slot; and the stack pointer for all others.
     pub address: u16,
 }
 

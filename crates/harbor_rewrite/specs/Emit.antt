@@ -6,7 +6,8 @@ use Rattle.unit_code.specs.declared.unit.Shape.{Shape}
 use Rattle.unit_code.specs.Spelling.{AreTemplatesOf, starts_of}
 use Rattle.harbor_short.specs.Rounds.{AreChosen}
 
--- The words, of 16 bits, are the templates of the units, one after the other, in the shapes to which the rounds come, and these are their starts.
+-- The words, of 16 bits, are the templates of the units, one after the other, in the shapes to which the rounds come,
+-- and these are their starts.
 pub record AreEmitted (us : List Unit) (words starts : List ℕ) : Type 0 where
   pub shapes : List Shape
   pub chosen : AreChosen us shapes

@@ -35,7 +35,8 @@ entered_at c (handler ∷ words) = record c { handler = handler; face = with_ent
 abbrev pub with_code : Contents → List ℕ → Contents
 with_code c words = record c { rewritten = true; code = words }
 
--- The image with these words as its code, entered at the starts of the templates of the old marks' units. No other field changes but bit 0 of the flags.
+-- The image with these words as its code, entered at the starts of the templates of the old marks' units. No other
+-- field changes but bit 0 of the flags.
 abbrev pub rewritten_with : Contents → List ℕ → List ℕ → Contents
 rewritten_with c words starts = with_code (entered_at c (map (start_of starts) (listing_of c).marks)) words
 

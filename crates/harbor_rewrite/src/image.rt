@@ -21,8 +21,8 @@ use mote_layout::PROVIDED;
 use std::alloc::Global;
 use unit_code::{BankCode, CodeError, UnitList, units};
 
-/// The file of the rewritten image: of the same version, with the same face but for the words of the provided functions, the same
-/// state size, constants and seal.
+/// The file of the rewritten image: of the same version, with the same face but for the words of the provided
+/// functions, the same state size, constants and seal.
 pub fn rewrite(alloc: Global, image: &ImageView<'_>) -> Result<Vec<u8>, RewriteError>
     ensures rewritten { IfOk result (λ file. IsRewritten image.now file.items) }
     ensures spelled { IfOk result (λ file. SpellsOriginal image.now file.items) }

@@ -31,8 +31,8 @@ pub fn one_emission()
         → AreEmitted units others places → (words ≡ others) × (starts ≡ places) }
 {}
 
-/// A proper list of units, in the shapes to which the rounds come, has words. This law has a body, which spells the units one by one and
-/// takes no memory: that an instruction has words is known from `encode` alone.
+/// A proper list of units, in the shapes to which the rounds come, has words. This law has a body, which spells the
+/// units one by one and takes no memory: that an instruction has words is known from `encode` alone.
 pub fn words_exist(units: &[Unit], starts: &[u16], shapes: &[Shape])
     requires proper { (sealed : Bool) × IsProper units.now sealed }
     requires chosen { AreChosen units.now shapes.now }
@@ -46,8 +46,8 @@ pub fn words_exist(units: &[Unit], starts: &[u16], shapes: &[Shape])
     }
 }
 
-/// Whatever file is made of an image, its words are not refused by the verifier, and the units that are read from them are those of the
-/// original.
+/// Whatever file is made of an image, its words are not refused by the verifier, and the units that are read from them
+/// are those of the original.
 pub fn rewritten_is_accepted()
     ensures { (c r : Contents) (file : List ℕ) → SpellsOriginal c file → Image file r
         → (refusal r.code (marks_of r) r.sealed ≡ None) × (units_in r.code ≡ (listing_of c).units) }

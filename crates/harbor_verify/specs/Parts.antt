@@ -6,7 +6,8 @@ use Rattle.unit_code.specs.declared.unit.Unit.{Unit}
 use Rattle.harbor_verify.specs.Resolved.{resolved}
 use Rattle.harbor_verify.specs.Walks.{gap, starts_in, unfit}
 
--- There are few words of 16 bits, and in an image that is sealed or not they are templates side by side, with these starts.
+-- There are few words of 16 bits, and in an image that is sealed or not they are templates side by side, with these
+-- starts.
 pub record ArePartsOf (words starts : List ℕ) : Type 0 where
   pub sealed : Bool
   pub small : AllByRecursion (λ word. word < 2 ^ 16) words
@@ -20,7 +21,8 @@ pub record HaveUnits (words : List ℕ) : Type 0 where
   pub units : List Unit
   pub are : resolved words ≡ Ok units
 
--- The words were accepted, with these starts: in an image that is sealed or not, entered at some marks, they spell units.
+-- The words were accepted, with these starts: in an image that is sealed or not, entered at some marks, they spell
+-- units.
 pub record IsAccepted (words starts : List ℕ) : Type 0 where
   pub sealed : Bool
   pub marks : List ℕ

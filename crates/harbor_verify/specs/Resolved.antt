@@ -39,7 +39,8 @@ no_more (next ∷ behind) = false
 abbrev pub before_next : ℕ → List Form → Result Unit ℕ → Result Unit ℕ
 before_next at behind unit = if no_more behind then Err at else unit
 
--- The unit of the n-th form, whose template starts at a place before others, or the first place in it that leads astray.
+-- The unit of the n-th form, whose template starts at a place before others, or the first place in it that leads
+-- astray.
 abbrev pub resolve : List ℕ → ℕ → ℕ → Form → List Form → Result Unit ℕ
 resolve starts n at (Whole u) behind = Ok u
 resolve starts n at (ShortSkip i) behind = if can_skip behind then Ok (Skip i) else Err at

@@ -9,8 +9,8 @@ ghost use Rattle.harbor_verify.specs.Law.{IsFirst};
 ghost use Rattle.harbor_verify.specs.Verdict.{refusal, units_in};
 ghost use Rattle.harbor_verify.specs.Walks.{starts_in};
 
-/// Words that are not refused spell the units that are read from them, and words that spell units are not refused and are
-/// read as these. The refusal of others is the first condition that holds.
+/// Words that are not refused spell the units that are read from them, and words that spell units are not refused and
+/// are read as these. The refusal of others is the first condition that holds.
 pub fn words_are_judged()
     ensures spell { (words marks : List ℕ) (sealed : Bool) → AllByRecursion (λ word. word < 2 ^ 16) words
         → refusal words marks sealed ≡ None → Spells words marks sealed (units_in words) (starts_in words) }

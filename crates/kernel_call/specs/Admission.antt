@@ -9,7 +9,8 @@ use Rattle.kernel_call.specs.declared.admitted.Admitted.{Admitted}
 use Rattle.kernel_call.specs.declared.admitted.Admitted.TheVariants.{Placed, Duplicate, Domain, Room}
 
 -- A module that asks to come in: what it shows to others, the bytes of state that it asks for, the unit at which a
--- dispatch starts, the units at which the functions that it provides begin, its constants, and whether its loads are checked.
+-- dispatch starts, the units at which the functions that it provides begin, its constants, and whether its loads are
+-- checked.
 pub record Newcomer : Type 0 where
   pub face : Face
   pub state_size : ℕ
@@ -47,8 +48,8 @@ seat_of m domain state constants =
       sealed = m.sealed;
     }
 
--- Nothing changes where a module with the id is loaded, else where no domain is free, else where no run of blocks is long enough
--- for the state, or none in what is left for the constants. Else the module is in the lowest free domain.
+-- Nothing changes where a module with the id is loaded, else where no domain is free, else where no run of blocks is
+-- long enough for the state, or none in what is left for the constants. Else the module is in the lowest free domain.
 abbrev pub admit_beside : Option Given → ℕ → Newcomer → ℕ → KernelState → Admission
 admit_beside None state m domain k = record { kernel = k; answer = Room }
 admit_beside (Some g) state m domain k =

@@ -63,7 +63,8 @@ begins_where false ss size = address_for ss size
 abbrev pub begins : List Segment → ℕ → Option ℕ
 begins ss size = begins_where (size == 0) ss size
 
--- Where a module's two blocks begin: the domain's for its state, and then the kernel's for its constants in what is left.
+-- Where a module's two blocks begin: the domain's for its state, and then the kernel's for its constants in what is
+-- left.
 abbrev pub placed_at : Option ℕ → ℕ → Option Place
 placed_at None state = None
 placed_at (Some constants) state = Some (record { state = state; constants = constants })

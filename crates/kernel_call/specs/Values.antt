@@ -39,7 +39,8 @@ with_filled true address bytes p = p
 with_filled false address bytes p =
     record p { memory = with_bytes (with_cleared false address (length bytes) p).memory (address - ram_start) bytes }
 
--- the processor where a module's blocks stand ready: that of its state cleared, and its constants in theirs, with zeros behind
+-- the processor where a module's blocks stand ready: that of its state cleared, and its constants in theirs, with zeros
+-- behind
 abbrev pub readied : Place → ℕ → List ℕ → Processor → Processor
 readied place size constants p =
     with_filled (length constants == 0) place.constants constants (with_cleared (size == 0) place.state size p)

@@ -36,8 +36,8 @@ pub enum Returned {
 }
 
 impl Kernel {
-    /// The running domain calls a function of its own, and goes on at `back` after it. The fault where the stack has no room for
-    /// two bytes, or there is none for a frame: nothing changes then.
+    /// The running domain calls a function of its own, and goes on at `back` after it. The fault where the stack has no
+    /// room for two bytes, or there is none for a frame: nothing changes then.
     pub fn local_call(&mut self, back: u16) -> Option<FaultNote>
         requires handler { IsSome self.old.running }
         requires floor { floor ≤ self.old.processor.sp }
@@ -54,8 +54,8 @@ impl Kernel {
         fault
     }
 
-    /// The running domain calls slot `i`, and goes on at `back` after it. Where the slot is bound, the provider's function is
-    /// entered, unless there is no room for the call; where not, the answer says so.
+    /// The running domain calls slot `i`, and goes on at `back` after it. Where the slot is bound, the provider's
+    /// function is entered, unless there is no room for the call; where not, the answer says so.
     pub fn slot_call(&mut self, i: u8, back: u16, lines: &mut Lines) -> SlotEnd
         requires handler { IsSome self.old.running }
         requires floor { floor ≤ self.old.processor.sp }
@@ -81,7 +81,8 @@ impl Kernel {
         }
     }
 
-    /// Returns from what runs: to its caller, or from the handler. The two bytes that the call pushed are popped unread.
+    /// Returns from what runs: to its caller, or from the handler. The two bytes that the call pushed are popped
+    /// unread.
     pub fn come_back(&mut self) -> Returned
         requires handler { IsSome self.old.running }
         requires floor { floor ≤ self.old.processor.sp }

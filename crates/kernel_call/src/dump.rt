@@ -21,8 +21,8 @@ use sos_heap::Parcel;
 use sos_timer::Timers;
 
 impl Kernel {
-    /// Tells the modules by their domains, the blocks by their addresses, the messages in the order in which they are taken, and
-    /// the timers in the order in which they fire.
+    /// Tells the modules by their domains, the blocks by their addresses, the messages in the order in which they are
+    /// taken, and the timers in the order in which they fire.
     pub fn dump(&self, lines: &mut Lines)
         requires empty { lines.old ≡ [] }
         ensures { lines.new ≡ dumped self.now }

@@ -115,7 +115,8 @@ fn bytes_of(word: u16) -> [u8; 2]
     [(word % 256) as u8, (word / 256) as u8]
 }
 
-/// Readies the blocks of a module that comes in: the bytes of its state are cleared, and its constants are put into theirs.
+/// Readies the blocks of a module that comes in: the bytes of its state are cleared, and its constants are put into
+/// theirs.
 pub fn ready(cpu: &mut Cpu, place: &Place, size: u16, constants: &[u8])
     requires state { size ≢ 0 → LiesInHeap size place.now.state }
     requires constants { length constants.now ≢ 0 → LiesInHeap (length constants.now) place.now.constants }

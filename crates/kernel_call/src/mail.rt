@@ -21,8 +21,8 @@ use std::marker::Model;
 
 /// The blocks of the heap, the messages that wait, the message in hand, and the parcels of the modules' constants.
 ///
-/// The kernel's blocks are exactly the payloads of these messages and these parcels, each once. So a parcel goes on with its
-/// message or stays with its module, and ends with the domain that takes it or in the heap.
+/// The kernel's blocks are exactly the payloads of these messages and these parcels, each once. So a parcel goes on
+/// with its message or stays with its module, and ends with the domain that takes it or in the heap.
 #[derive(Drop)]
 pub struct Mail {
     heap: Heap,
@@ -152,8 +152,8 @@ impl Mail {
         self.queues.post(m).is_ok()
     }
 
-    /// Posts a message with the block of a domain that begins at an address, which is the kernel's then. False where its
-    /// queue is full: the block stays the domain's.
+    /// Posts a message with the block of a domain that begins at an address, which is the kernel's then. False where
+    /// its queue is full: the block stays the domain's.
     pub fn send(&mut self, m: Msg<Parcel>, d: u8, a: u16) -> bool
         requires domain { d < domain_count }
         requires held { HoldsBytes self.old.blocks d a m.len }
@@ -170,8 +170,8 @@ impl Mail {
         true
     }
 
-    /// Posts a message with a new block of the kernel's for its bytes, and answers the block's address. None where there is no
-    /// place for it.
+    /// Posts a message with a new block of the kernel's for its bytes, and answers the block's address. None where
+    /// there is no place for it.
     pub fn issue(&mut self, m: Msg<Parcel>) -> Option<u16>
         requires room { nat_lt (length (list_of m.high self.old.queues)) queue_limit ≡ true }
         ensures address { result ≡ address_for self.old.blocks m.len }
@@ -240,8 +240,8 @@ impl Mail {
         self.kept.address(d)
     }
 
-    /// Gives a domain a block for so many bytes of state, and keeps one of the kernel's for so many bytes of constants in what is
-    /// left, where bytes are asked for. None where one of the two has no place.
+    /// Gives a domain a block for so many bytes of state, and keeps one of the kernel's for so many bytes of constants
+    /// in what is left, where bytes are asked for. None where one of the two has no place.
     pub fn place(&mut self, d: u8, state: u16, constants: u16) -> Option<Place>
         requires domain { d < domain_count }
         requires free { kept_for self.old.kept d ≡ None }
@@ -276,7 +276,8 @@ impl Mail {
         }
     }
 
-    /// Takes out every message from or to a module, with its payload, and frees the blocks of its domain and that of its constants.
+    /// Takes out every message from or to a module, with its payload, and frees the blocks of its domain and that of
+    /// its constants.
     pub fn clear(&mut self, id: u8, d: u8)
         requires domain { d < domain_count }
         ensures { self.new ≡ cleared id d self.old }

@@ -23,8 +23,8 @@ use std::marker::Model;
 
 /// The modules in the order of their loads: there is room for one in each domain, and its memory is taken once.
 ///
-/// Beside them stand the link of each slot and the unit of each function that is provided. They follow from the modules, so
-/// nothing of them is seen.
+/// Beside them stand the link of each slot and the unit of each function that is provided. They follow from the
+/// modules, so nothing of them is seen.
 #[derive(Drop)]
 pub struct Modules {
     jumps: JumpTable,

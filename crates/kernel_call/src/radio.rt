@@ -22,8 +22,9 @@ use sos_heap::Parcel;
 const RADIO: u8 = 255;
 
 impl Kernel {
-    /// A packet of at most 96 bytes comes, in a handler too: it becomes a message in the low queue, with its bytes in a new block
-    /// of the kernel's, or is dropped. Its line tells which. The time at which it was due means nothing any more.
+    /// A packet of at most 96 bytes comes, in a handler too: it becomes a message in the low queue, with its bytes in a
+    /// new block of the kernel's, or is dropped. Its line tells which. The time at which it was due means nothing any
+    /// more.
     #[tactic(auto, using(crate::proofs::Packets::heard_at))]
     pub fn radio(&mut self, to: u8, sort: u8, bytes: &[u8], lines: &mut Lines)
         requires short { length bytes.now ≤ payload_limit }
@@ -86,7 +87,8 @@ impl Kernel {
         self.mail.post(message);
     }
 
-    /// Lets a message wait in the low queue with a new cleared block of the kernel's for its bytes, and tells the block's address.
+    /// Lets a message wait in the low queue with a new cleared block of the kernel's for its bytes, and tells the
+    /// block's address.
     fn issue(&mut self, message: Msg<Parcel>) -> Option<u16>
         requires low { message.high ≡ false }
         requires loaded { is_loaded self.old.modules message.to ≡ true }

@@ -47,8 +47,9 @@ const SEND: u8 = 10;
 
 const MY_ID: u8 = 11;
 
-/// The registers of the arguments: the byte of `say`, the receiver of a post and the lower one of a packet's; the new owner of a
-/// block and the type of a message or a packet; the byte of a short message; the lower one of its word; the flags of a message.
+/// The registers of the arguments: the byte of `say`, the receiver of a post and the lower one of a packet's; the new
+/// owner of a block and the type of a message or a packet; the byte of a short message; the lower one of its word; the
+/// flags of a message.
 const FIRST: u8 = 24;
 
 const SECOND: u8 = 22;
@@ -83,8 +84,8 @@ const TOO_LONG: u16 = 1;
 const CLOCK_MODULUS: u64 = 65536;
 
 impl Kernel {
-    /// The kernel call of that number, of the running module. Where a block argument isn't a block of its own, or has fewer
-    /// bytes than are posted or sent, the call is refused before anything else is looked at.
+    /// The kernel call of that number, of the running module. Where a block argument isn't a block of its own, or has
+    /// fewer bytes than are posted or sent, the call is refused before anything else is looked at.
     pub fn serve(&mut self, n: u8, lines: &mut Lines) -> Served
         requires handler { IsSome self.old.running }
         requires number { n < kernel_call_count }

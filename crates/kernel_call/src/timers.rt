@@ -39,8 +39,8 @@ impl Kernel {
         self.timers.next_due()
     }
 
-    /// The first timer that is due fires, in a handler too: its message waits in the high queue, or is dropped where that has
-    /// no room. Its line tells which. False where none is due.
+    /// The first timer that is due fires, in a handler too: its message waits in the high queue, or is dropped where
+    /// that has no room. Its line tells which. False where none is due.
     pub fn fire(&mut self, lines: &mut Lines) -> bool
         requires room { length lines.old < turn_lines }
         ensures kernel { self.new ≡ (fired self.old).kernel }

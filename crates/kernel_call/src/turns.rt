@@ -31,8 +31,8 @@ const FINAL: u8 = 1;
 const KERNEL_SENDER: u8 = 0;
 
 impl Kernel {
-    /// Takes a module in, with a cleared state block and its constants in a block of the kernel's, zeros behind them, or tells why
-    /// not. Where one of the two has no place, neither is given. Its handler does not start yet.
+    /// Takes a module in, with a cleared state block and its constants in a block of the kernel's, zeros behind them,
+    /// or tells why not. Where one of the two has no place, neither is given. Its handler does not start yet.
     #[tactic(auto, using(crate::proofs::Receivers::received_more, crate::proofs::Seats::pushed_there, domain_model::proofs::ModuleLaws::in_use_new))]
     pub fn admit(
         &mut self,
@@ -78,7 +78,8 @@ impl Kernel {
         Admitted::Placed(domain)
     }
 
-    /// Takes the module in a domain out, with its blocks, its timers, and every message from or to it. The payloads of these messages are freed.
+    /// Takes the module in a domain out, with its blocks, its timers, and every message from or to it. The payloads of
+    /// these messages are freed.
     #[tactic(auto, using(crate::proofs::Receivers::received_rest, crate::proofs::Seats::in_use_within))]
     pub fn purge(&mut self, d: u8)
         requires outside { self.old.running ≡ None }
@@ -144,7 +145,8 @@ impl Kernel {
         Some(row.domain)
     }
 
-    /// The handler is over, with all calls in it. A payload that was not taken is freed. Answers the id of the module that ends.
+    /// The handler is over, with all calls in it. A payload that was not taken is freed. Answers the id of the module
+    /// that ends.
     pub fn end_handler(&mut self) -> Option<u8>
         requires handler { IsSome self.old.running }
         ensures ending { result ≡ self.old.ending }

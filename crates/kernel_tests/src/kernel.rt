@@ -1,4 +1,5 @@
-//! Each kernel call with each answer, the turn calls, and what a kernel tells of itself. The steps are told as `steps` says.
+//! Each kernel call with each answer, the turn calls, and what a kernel tells of itself. The steps are told as `steps`
+//! says.
 
 use crate::steps::check_steps;
 use std::test::Fail;

@@ -1,5 +1,5 @@
-//! Tests of the public calls of what the kernel keeps and of the kernel: messages, frames, entries, links, timers, kernel calls,
-//! parcels, constants, calls between domains.
+//! Tests of the public calls of what the kernel keeps and of the kernel: messages, frames, entries, links, timers,
+//! kernel calls, parcels, constants, calls between domains.
 #![tactic(auto)]
 
 #[cfg(test)]

@@ -1,16 +1,21 @@
-//! Steps of a kernel, told as text: a line is `STEP: ANSWER`, where the lines of the trace stand behind the answer, each
-//! behind a `;`. `N*STEP` is N such steps one after the other. All numbers of a step and of its answer are hexadecimal.
+//! Steps of a kernel, told as text: a line is `STEP: ANSWER`, where the lines of the trace stand behind the answer,
+//! each behind a `;`. `N*STEP` is N such steps one after the other. All numbers of a step and of its answer are
+//! hexadecimal.
 //!
-//! - `load ID STATE CONSTANTS` and `seal ID STATE CONSTANTS` load a module, and `user` and `provider` the two that are linked; they are
-//!   answered by the domain or the refusal. `unload D`, `begin D` and `finish D` are answered by yes where they can be made.
+//! - `load ID STATE CONSTANTS` and `seal ID STATE CONSTANTS` load a module, and `user` and `provider` the two that are
+//!   linked; they are answered by the domain or the refusal. `unload D`, `begin D` and `finish D` are answered by yes
+//!   where they can be made.
 //! - `call N A B` makes kernel call N with A in R25:R24 and B in R23:R22, and is answered by R25:R24 or the fault.
-//! - `local UNIT`, `slot I UNIT` and `back` are calls that come back to a unit, and a return, answered by what comes of them.
-//! - `end` ends the handler and tells the module that ends with it, `next` starts that of the next message and tells its domain.
-//! - `radio ID BYTES` is a packet, `dump` a dump, `fire` lets the first timer fire that is due, and `due` tells the first due moment.
-//! - `set R WORD`, `put ADDRESS BYTE`, `sp WORD`, `wait HIGH LOW` set a pair of registers, a byte of the memory, the stack pointer, the
-//!   clock by its two words.
-//! - `bytes ADDRESSES`, `stores ADDRESS`, `loads ADDRESS`, `row D`, `waiting` read bytes, whether a store or a load may be made, what the
-//!   kernel has in a domain, and whether a message waits.
+//! - `local UNIT`, `slot I UNIT` and `back` are calls that come back to a unit, and a return, answered by what comes of
+//!   them.
+//! - `end` ends the handler and tells the module that ends with it, `next` starts that of the next message and tells
+//!   its domain.
+//! - `radio ID BYTES` is a packet, `dump` a dump, `fire` lets the first timer fire that is due, and `due` tells the
+//!   first due moment.
+//! - `set R WORD`, `put ADDRESS BYTE`, `sp WORD`, `wait HIGH LOW` set a pair of registers, a byte of the memory, the
+//!   stack pointer, the clock by its two words.
+//! - `bytes ADDRESSES`, `stores ADDRESS`, `loads ADDRESS`, `row D`, `waiting` read bytes, whether a store or a load may
+//!   be made, what the kernel has in a domain, and whether a message waits.
 
 ghost use Rattle.std.specs.Prelude.{◌≡◌, ◌≤◌, [], IsSome, IsSomeAnd, true};
 ghost use Rattle.mote_layout.specs.Memory.{floor};
@@ -30,8 +35,8 @@ use trace_text::put_line;
 /// The unit at which the handler of each module begins.
 const HANDLER: u16 = 3;
 
-/// Module 1 provides functions 3 and 4 as `vv00`, and subscribes to its own function 4, to function 7 of module 2 by two
-/// prototypes, and to function 1 of module 2.
+/// Module 1 provides functions 3 and 4 as `vv00`, and subscribes to its own function 4, to function 7 of module 2 by
+/// two prototypes, and to function 1 of module 2.
 const USER: &[u8] =
     b"SOSM\x01\x01\0\0\0\0\0\x02\x04\0\0\x03vv00\0\0\x04vv00\0\0\x01\x04vv00\x02\x07iv00\x02\x07iv01\x02\x01iv01";
 

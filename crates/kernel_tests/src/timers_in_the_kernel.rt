@@ -1,5 +1,5 @@
-//! Timers started and stopped by kernel calls, fired in a handler, dropped, and gone with their module. The steps are told as `steps`
-//! says.
+//! Timers started and stopped by kernel calls, fired in a handler, dropped, and gone with their module. The steps are
+//! told as `steps` says.
 
 use crate::steps::check_steps;
 use std::test::Fail;

@@ -1,5 +1,5 @@
-//! The byte of each block: four bits of owner, one that says that a segment starts there, and one that says that the block
-//! is used.
+//! The byte of each block: four bits of owner, one that says that a segment starts there, and one that says that the
+//! block is used.
 
 ghost use Rattle.std.specs.Prelude.{◌≡◌, ℕ, ◌+◌, ◌≤◌, ◌<◌, Option, length, get_or};
 ghost use Rattle.std.specs.Option.{option_map_or};

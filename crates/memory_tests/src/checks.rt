@@ -45,8 +45,8 @@ fn checks_the_edges(rt: HostRuntime) -> Result<(), Fail> {
     Ok(())
 }
 
-/// Domain 2 has the blocks 1 and 2, domain 3 has block 4, and the kernel has the blocks 8 and 9, which begin at 0x0240, and
-/// block 12.
+/// Domain 2 has the blocks 1 and 2, domain 3 has block 4, and the kernel has the blocks 8 and 9, which begin at 0x0240,
+/// and block 12.
 #[test]
 fn checks_loads(rt: HostRuntime) -> Result<(), Fail> {
     let mut map = MemoryMap::new(rt.alloc())?;

@@ -17,8 +17,8 @@ use Rattle.mod_loader.specs.declared.refusal.NotLoaded.{NotLoaded}
 use Rattle.mod_loader.specs.declared.refusal.NotLoaded.TheVariants as absent
 use Rattle.mod_loader.specs.Banks.{Readied}
 
--- What the line of a refused load tells of it: its number; the number of its kind; its word, byte, version or count; and the
--- kind of a refused instruction, each 0 where there is none.
+-- What the line of a refused load tells of it: its number; the number of its kind; its word, byte, version or count;
+-- and the kind of a refused instruction, each 0 where there is none.
 abbrev pub load_number : LoadRefusal → ℕ
 load_number (Image e) = 1
 load_number (Code e) = 2
@@ -66,8 +66,9 @@ brought a = record { kernel = a.kernel; answer = answered a.answer }
 abbrev pub newcomer_of : Module → Newcomer
 newcomer_of m = newcomer m.face m.state_size m.handler m.entries m.constants m.sealed
 
--- A file without a module is refused. A module comes in by the kernel's admission, which refuses it first where one with its id
--- is loaded, then where no domain is free, then where no run of free blocks is long enough for its state, or none beside it for its constants.
+-- A file without a module is refused. A module comes in by the kernel's admission, which refuses it first where one
+-- with its id is loaded, then where no domain is free, then where no run of free blocks is long enough for its state,
+-- or none beside it for its constants.
 abbrev pub loading : Readied → KernelState → Moving LoadRefusal
 loading (Err refusal) k = record { kernel = k; answer = Err (of_file refusal) }
 loading (Ok b) k = brought (admission k (newcomer_of b.loadable))

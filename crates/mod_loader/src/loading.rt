@@ -8,8 +8,8 @@ use crate::ready::Ready;
 use crate::refusal::{LoadRefusal, NotLoaded, of_file};
 use kernel_call::{Admitted, Kernel};
 
-/// Brings the module of an image in, outside a handler, and answers its domain. Its handler does not start. After a refusal
-/// nothing has changed.
+/// Brings the module of an image in, outside a handler, and answers its domain. Its handler does not start. After a
+/// refusal nothing has changed.
 pub fn load(k: &mut Kernel, image: &Ready) -> Result<u8, LoadRefusal>
     requires { k.old.running ≡ None }
     ensures kernel { k.new ≡ (loading image.now k.old).kernel }
@@ -52,8 +52,8 @@ fn answered(admitted: Admitted) -> Result<u8, LoadRefusal>
     }
 }
 
-/// Takes the module with an id out, outside a handler, with all that is its own, and answers its domain. No last handler of it
-/// runs.
+/// Takes the module with an id out, outside a handler, with all that is its own, and answers its domain. No last
+/// handler of it runs.
 pub fn unload(k: &mut Kernel, id: u8) -> Result<u8, NotLoaded>
     requires { k.old.running ≡ None }
     ensures kernel { k.new ≡ (unloading (module_named k.old.modules id) k.old).kernel }

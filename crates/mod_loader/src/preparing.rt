@@ -151,7 +151,8 @@ fn numbers_at(alloc: Global, starts: &[u16], marks: &[u16]) -> Result<Vec<u16>, 
     Ok(numbers)
 }
 
-// The module of an image whose units were read, with the words of its bank, and which is entered at the units with these numbers.
+// The module of an image whose units were read, with the words of its bank, and which is entered at the units with
+// these numbers.
 fn prepared_module(
     alloc: Global,
     image: &ImageView<'_>,

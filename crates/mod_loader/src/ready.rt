@@ -52,7 +52,8 @@ impl Ready {
         }
     }
 
-    /// The code of the module's bank: its units, with words that spell them. None exactly where the file holds no module.
+    /// The code of the module's bank: its units, with words that spell them. None exactly where the file holds no
+    /// module.
     pub fn bank(&self) -> Option<&BankCode>
         ensures code { MatchOption result (bank_of self.now ≡ None) (λ code. bank_of self.now ≡ Some code.now) }
         ensures placeable { IfSome result (λ code. IsPlaceable code.now) }

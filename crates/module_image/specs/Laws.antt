@@ -4,9 +4,9 @@ use Rattle.module_image.specs.declared.error.ImageError.TheVariants.{Short, Fiel
 use Rattle.module_image.specs.Contents.{IsVersion}
 use Rattle.module_image.specs.Reading.{image_of}
 
--- The field at a place breaks its rule: the bytes before it alone are too short, and so are they with as many of its own
--- as don't fill it; and every file that begins with the bytes up to its end is refused for it. A field with a rule has one
--- byte, but for the number of constants at 15, which has two.
+-- The field at a place breaks its rule: the bytes before it alone are too short, and so are they with as many of its
+-- own as don't fill it; and every file that begins with the bytes up to its end is refused for it. A field with a rule
+-- has one byte, but for the number of constants at 15, which has two.
 pub record BreaksAt (file : List ℕ) (at : ℕ) : Type 0 where
   pub front : List ℕ
   pub field : List ℕ

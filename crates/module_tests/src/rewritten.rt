@@ -68,8 +68,8 @@ fn a_guarded_store(rt: HostRuntime) -> Result<(), Fail> {
 
 #[test]
 fn templates_in_their_shapes(rt: HostRuntime) -> Result<(), Fail> {
-    // Original words and rewritten ones: a loop, a branch ahead, skips over a store, a word, two words, a branch that becomes
-    // short in the round before, and a jump, a branch before a jump, a local call.
+    // Original words and rewritten ones: a loop, a branch ahead, skips over a store, a word, two words, a branch that
+    // becomes short in the round before, and a jump, a branch before a jump, a local call.
     let rows: [(&[u16], &[u16]); 9] = [
         (
             &[0xE00A, 0x950A, 0xF7F1, 0x9508],

@@ -79,7 +79,8 @@ fn branches_at_the_ends_of_their_reach(rt: HostRuntime) -> Result<(), Fail> {
 
 #[test]
 fn a_branch_waits_for_the_round_before(rt: HostRuntime) -> Result<(), Fail> {
-    // Two branches over the same NOPs to the same unit: the first one measures 64 words, and 63 once the second is short.
+    // Two branches over the same NOPs to the same unit: the first one measures 64 words, and 63 once the second is
+    // short.
     let words = around(rt.alloc(), &[0xF1F1, 0xF1E9], NOP, 61, &[RET])?;
     let shapes = shapes_of(&rt, rt.alloc(), &words, false)?;
     assert_eq!(rt; shapes.first(), Some(&Short));

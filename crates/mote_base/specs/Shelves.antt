@@ -9,7 +9,8 @@ pub record OpenFiles : Type 0 where
   pub files : List Named
   pub chosen : Option Place
 
--- A shelf that fails at the calls with the listed numbers. `calls` is how many were made, which is the number of the next one.
+-- A shelf that fails at the calls with the listed numbers. `calls` is how many were made, which is the number of the
+-- next one.
 pub record FailingShelf : Type 0 where
   pub files : List Named
   pub chosen : Option Place

@@ -23,8 +23,9 @@ use Rattle.mod_loader.specs.Loads.{loading}
 use Rattle.mote_core.specs.declared.limits.Limits.{Limits}
 use Rattle.mote_core.specs.Value.{MoteValue, made_by, state_of}
 
--- How a runner of the type R works: what the machine sees of it, what its next unit does to the kernel and to it, and what it is
--- with the code of a module put into a domain, with the code of a domain taken out, and with a unit of a domain next.
+-- How a runner of the type R works: what the machine sees of it, what its next unit does to the kernel and to it, and
+-- what it is with the code of a module put into a domain, with the code of a domain taken out, and with a unit of a
+-- domain next.
 pub record Workings (R : Type 0) : Type 0 where
   pub part : R → RunnerState
   pub acts : KernelState → R → ActedBy R
@@ -44,8 +45,8 @@ abbrev pub dispatched_by : {R : Type 0} → (R → ℕ → ℕ → R) → Option
 dispatched_by enter None k r = r
 dispatched_by enter (Some m) k r = handler_entered enter (module_named k.modules m.to) r
 
--- A load, by how it is answered: the code stands in the domain of the module, and its handler is next. One that is refused leaves
--- the runner as it is, and so does one of an image that holds no module, and of none.
+-- A load, by how it is answered: the code stands in the domain of the module, and its handler is next. One that is
+-- refused leaves the runner as it is, and so does one of an image that holds no module, and of none.
 abbrev pub loaded_into : {R : Type 0} → (R → ℕ → BankListing → R) → (R → ℕ → ℕ → R) → Result ℕ LoadRefusal → Banked → R → R
 loaded_into place enter (Ok domain) b r = enter (place r domain (code_of b)) domain b.loadable.handler
 loaded_into place enter (Err refusal) b r = r
@@ -97,7 +98,8 @@ runner_after w Budgets m = m.runner
 runner_after w (Watches run) m = faulted_by w.cleared_by run m.kernel m.runner
 runner_after w (Acts run) m = ran_by w.cleared_by run (w.acts m.kernel m.runner)
 
--- The mote with this runner, and in all else that a turn may change as in a state of the machine. Its images and its limits stay.
+-- The mote with this runner, and in all else that a turn may change as in a state of the machine. Its images and its
+-- limits stay.
 abbrev pub moved_to : {R : Type 0} → State → R → MoteValue R → MoteValue R
 moved_to s r m =
     record m {

@@ -7,8 +7,8 @@ use Rattle.domain_model.specs.Turn.{Made, choice, emptied, entered, made, placed
 use Rattle.mote_core.specs.Exact.{Turning, Workings, turned}
 use Rattle.mote_core.specs.Value.{MoteValue, acted, state_of}
 
--- Workings that keep the laws of runners: where one is placed, cleared or entered, the machine sees its own runner with code put in, with code taken out, or
--- with another unit next.
+-- Workings that keep the laws of runners: where one is placed, cleared or entered, the machine sees its own runner with
+-- code put in, with code taken out, or with another unit next.
 pub record AreLawful {R : Type 0} (w : Workings R) : Type 0 where
   pub placed_law : (r : R) (domain : ℕ) (code : BankListing) → w.part (w.placed_by r domain code) ≡ placed (w.part r) domain code.units
   pub cleared_law : (r : R) (domain : ℕ) → w.part (w.cleared_by r domain) ≡ emptied (w.part r) domain

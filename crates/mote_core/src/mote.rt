@@ -134,8 +134,8 @@ impl<R: Runner> Mote<R> {
         self.total
     }
 
-    /// Makes one turn and writes its lines, with those of the instructions that the runner ran (`Ran`). After the end of
-    /// the run it makes none, and tells the same end.
+    /// Makes one turn and writes its lines, with those of the instructions that the runner ran (`Ran`). After the end
+    /// of the run it makes none, and tells the same end.
     pub fn turn(&mut self, lines: &mut Lines) -> Turned
         requires { lines.old ≡ [] }
         ensures state { state_of R.Runner.part self.new ≡

@@ -5,11 +5,10 @@ use Rattle.module_image.specs.declared.face.Face.{Face}
 use Rattle.module_image.specs.Contents.{Contents, first_version}
 use Rattle.mote_gen.specs.Numbers.{draw, from, module_count, module_draws}
 
--- A module's code. On a message of the packets' type it counts down from a number, takes the payload and posts it to a receiver.
--- What it does is told by its words as instructions:
---   lds r18,0x0100 · cpi r18,7 · brbs 1, over the next · ret
---   ldi r16,count · dec r16 · brbc 1, back to dec
---   call 0xF105 (take) · movw r18,r24 · ldi r24,receiver · ldi r22,9 · ldi r20,8 · ldi r21,0 · call 0xF104 (post_long) · ret
+-- A module's code. On a message of the packets' type it counts down from a number, takes the payload and posts it to a
+-- receiver. What it does is told by its words as instructions: lds r18,0x0100 · cpi r18,7 · brbs 1, over the next · ret
+-- ldi r16,count · dec r16 · brbc 1, back to dec call 0xF105 (take) · movw r18,r24 · ldi r24,receiver · ldi r22,9 · ldi
+-- r20,8 · ldi r21,0 · call 0xF104 (post_long) · ret
 abbrev pub code_of : ℕ → ℕ → List ℕ
 code_of count receiver =
     0x9120 ∷ 0x0100 ∷ 0x3027 ∷ 0xF009 ∷ 0x9508

@@ -1,6 +1,7 @@
--- Blocks of the kernel's that are on their way: where their bytes are, and how the kernel's entries change. Who holds them
--- has to know that they are exactly the kernel's entries, each once. So the entries are counted by their first block: a list
--- of payloads is all of them, each once, where as many payloads begin with a block as entries do, for every block.
+-- Blocks of the kernel's that are on their way: where their bytes are, and how the kernel's entries change. Who holds
+-- them has to know that they are exactly the kernel's entries, each once. So the entries are counted by their first
+-- block: a list of payloads is all of them, each once, where as many payloads begin with a block as entries do, for
+-- every block.
 use Rattle.std.specs.Prelude.{◌≡◌, ◌≢◌, ℕ, ◌+◌, ◌*◌, ◌≤◌, ◌==◌, ◌&&◌, List, length, filter, IsSomeAnd, if◌then◌else◌}
 use Rattle.mote_layout.specs.Memory.{block_bytes, kernel}
 use Rattle.mote_layout.specs.Blocks.{starting_at}

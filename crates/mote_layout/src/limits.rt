@@ -1,6 +1,7 @@
 //! How much of each thing there may be. All of these limits are this project's own.
 //!
-//! The limits on messages, timers, frames and the bytes of a line stand in `mote_base`, beside the types that they bound.
+//! The limits on messages, timers, frames and the bytes of a line stand in `mote_base`, beside the types that they
+//! bound.
 
 ghost use Rattle.std.specs.Prelude.{◌≡◌};
 ghost use Rattle.mote_layout.specs.Limits.{provided_limit, subscribed_limit, payload_limit, script_limit, event_limit, image_limit, images_limit, unit_limit, default_units, handler_limit, default_handler_units, turn_lines};

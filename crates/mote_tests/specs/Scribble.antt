@@ -26,8 +26,8 @@ abbrev pub kernel_inked : Bool → List ℕ → List ℕ
 kernel_inked true memory = inked (kernel_bytes_start - ram_start) (kernel_bytes_end + 1 - kernel_bytes_start) memory
 kernel_inked false memory = memory
 
--- whether a unit calls the kernel or ends the handler. (One that returns to another domain's call leaves the kernel's bytes open too; this
--- runner keeps them there.)
+-- whether a unit calls the kernel or ends the handler. (One that returns to another domain's call leaves the kernel's
+-- bytes open too; this runner keeps them there.)
 abbrev pub calls_or_ends : Option Running → RunnerState → UnitEnd → Bool
 calls_or_ends None r ending = true
 calls_or_ends (Some run) r ending = calls_kernel (next_unit r run) || ends_handler ending

@@ -1,9 +1,9 @@
 //! Files of a table, from what it tells of them.
 //!
-//! `lines L;L;L` has lines, `hex BB BB` bytes, and `image ID FIELDS` is the image of a module. The fields, with what holds where one
-//! is left out: `version` (1), `flags` (0), `state` (0 bytes), `handler` (word 0), `provides` with a list of FUNC/PROTO/WORD, `subscribes`
-//! with one of MODULE/FUNC/PROTO, `const` with bytes, `code` with words. Bytes and words of code are told by their hexadecimal
-//! digits, and `xN` behind them is N of them.
+//! `lines L;L;L` has lines, `hex BB BB` bytes, and `image ID FIELDS` is the image of a module. The fields, with what
+//! holds where one is left out: `version` (1), `flags` (0), `state` (0 bytes), `handler` (word 0), `provides` with a
+//! list of FUNC/PROTO/WORD, `subscribes` with one of MODULE/FUNC/PROTO, `const` with bytes, `code` with words. Bytes
+//! and words of code are told by their hexadecimal digits, and `xN` behind them is N of them.
 
 use std::alloc::Global;
 use std::test::Fail;

@@ -79,7 +79,8 @@ fn trace_by<R: Runner>(
     Ok(ran.trace)
 }
 
-/// Each run gives the same trace by a runner of the units themselves, and by one that leaves other values in the free bytes.
+/// Each run gives the same trace by a runner of the units themselves, and by one that leaves other values in the free
+/// bytes.
 #[test]
 fn runs_are_the_same_by_other_runners(rt: HostRuntime) -> Result<(), Fail> {
     let alloc = rt.alloc();

@@ -1,5 +1,5 @@
-//! A runner that runs units as the plain runner does, and then writes over every byte that the unit leaves open: the dead
-//! bytes of the stack, and at an entry of the kernel the kernel's own. Rows that run with it give the same traces.
+//! A runner that runs units as the plain runner does, and then writes over every byte that the unit leaves open: the
+//! dead bytes of the stack, and at an entry of the kernel the kernel's own. Rows that run with it give the same traces.
 ghost use Rattle.std.specs.Prelude.{◌≡◌, ◌+◌, ◌-◌, ◌≤◌};
 ghost use Rattle.mote_layout.specs.Memory.{floor, ram_end, ram_start};
 ghost use Rattle.domain_model.specs.State.{KernelState};

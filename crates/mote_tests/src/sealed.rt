@@ -152,8 +152,8 @@ fn ldi(register: u16, byte: u16) -> u16 {
     0xE000 | (byte & 0xF0) << 4 | (register & 0x0F) << 4 | byte & 0x0F
 }
 
-/// The image of a module that pushes a 9, puts an address into a pointer, loads by a form, and says what it loaded: E009 930F,
-/// two words, the load, 940E F108 910F 9508.
+/// The image of a module that pushes a 9, puts an address into a pointer, loads by a form, and says what it loaded:
+/// E009 930F, two words, the load, 940E F108 910F 9508.
 fn loader(alloc: Global, form: (u16, u16, &str), address: u16) -> Result<Vec<u8>, Fail> {
     let (register, above, word) = form;
     let pointer = address.wrapping_sub(above);

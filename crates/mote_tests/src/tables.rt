@@ -2,7 +2,8 @@
 //!
 //! - `@ NAME FILE`: a file, told as `files` says. Of two files of a name the later one counts.
 //! - `$ WORDS`: a call that is to end with Done; `$N WORDS`: one that is to end with exit status N.
-//! - behind a call, up to an empty line: the lines that it writes, parted by `;` or by line feeds, or `= NAME`, the bytes of a file.
+//! - behind a call, up to an empty line: the lines that it writes, parted by `;` or by line feeds, or `= NAME`, the
+//!   bytes of a file.
 //! - `!read N` and `!put N`: what the next call asks of its shelf or puts fails at the Nth time, from 0.
 //! - `# ..`: a remark on what follows.
 
@@ -47,7 +48,8 @@ pub(crate) struct Table {
 }
 
 impl Call {
-    /// The files that a run is given, a script and images, where the call is one without options that is to end with Done.
+    /// The files that a run is given, a script and images, where the call is one without options that is to end with
+    /// Done.
     pub(crate) fn run_files(&self) -> Option<&'static str> {
         let files = self.words.strip_prefix("run ")?;
         (self.status == 0 && !files.contains("-")).then_some(files)

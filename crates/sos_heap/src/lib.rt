@@ -7,8 +7,9 @@
 //! be copied, and ends in `settle` or `scrap`. Beside its exact clause each call has one, `kernel`, that says how
 //! the kernel's entries change, by which the layer above keeps them to be exactly the parcels that it holds.
 //!
-//! The lowest place for a request is found by an index (`tree`), which each call keeps: a tree over the blocks, in which each
-//! node has the runs of free blocks of its stretch. `blocks` has the map and the index together, with the map's clauses.
+//! The lowest place for a request is found by an index (`tree`), which each call keeps: a tree over the blocks, in
+//! which each node has the runs of free blocks of its stretch. `blocks` has the map and the index together, with the
+//! map's clauses.
 //!
 //! The heap knows whose the bytes are and not what they are: to clear a block is the kernel's work.
 #![tactic(auto)]

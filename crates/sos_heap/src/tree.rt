@@ -1,7 +1,7 @@
 //! The index of holes: a tree over the blocks of the heap, in which each node has the runs of its stretch.
 //!
-//! The root is node 1, the halves of a node stand at twice its number and behind that, and the blocks have the last nodes.
-//! To find a place goes down once; to change a segment writes its leaves and joins the nodes above them again.
+//! The root is node 1, the halves of a node stand at twice its number and behind that, and the blocks have the last
+//! nodes. To find a place goes down once; to change a segment writes its leaves and joins the nodes above them again.
 
 ghost use Rattle.std.specs.Prelude.{◌≡◌, ℕ, ◌≤◌, ◌<◌, ◌+◌, ◌/◌, Bool, length};
 ghost use Rattle.sos_heap.specs.Tree.{IsAnswer, IsTree, changed, free_at, leaf_count, node_count};

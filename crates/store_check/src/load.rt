@@ -9,8 +9,8 @@ use mote_layout::{KERNEL, MESSAGE_FRAME, MESSAGE_FRAME_BYTES, RAM_START, block_a
 
 /// Whether domain `d` may load from the address `a`, in a sealed image.
 ///
-/// `frame` says that its module is the receiver of the message in hand, and `constants` is the address of the module's block
-/// of constants, or 0 where it has none.
+/// `frame` says that its module is the receiver of the message in hand, and `constants` is the address of the module's
+/// block of constants, or 0 where it has none.
 pub fn check_load(map: &MemoryMap, win: &Window, d: u8, frame: bool, constants: u16, a: u16) -> bool
     ensures permitted { IsTrue result ↔ MayLoad map.now d frame constants win.now.sp win.now.bound a }
     ensures value { result ≡ may_load map.now d frame constants win.now.sp win.now.bound a }

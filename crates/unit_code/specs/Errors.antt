@@ -1,4 +1,5 @@
--- What a refusal tells: the number of its condition, the word or count that it names, and the kind of a refused instruction.
+-- What a refusal tells: the number of its condition, the word or count that it names, and the kind of a refused
+-- instruction.
 use Rattle.std.specs.Prelude.{ℕ, Option, Some, None}
 use Rattle.unit_code.specs.declared.error.CodeError.{CodeError}
 use Rattle.unit_code.specs.declared.error.CodeError.TheVariants.{Undefined, Refused, Target, FallsOff, Empty, TooLong, Entry, NoMemory}

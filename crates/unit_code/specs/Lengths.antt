@@ -23,10 +23,10 @@ abbrev pub by_shape : Shape → ℕ → ℕ → ℕ
 by_shape Long long short = long
 by_shape Short long short = short
 
--- The template of each unit, as a sum over its instructions.
--- A store, a checked load, a push, a pop and a group stand behind the call of their guard, a local call behind that of its entry.
--- Reserve, an indirect call and a return are a call or a jump to the entry page alone.
--- In its long form a skip stands over a jump over a jump, and a branch is turned round and stands over a jump.
+-- The template of each unit, as a sum over its instructions. A store, a checked load, a push, a pop and a group stand
+-- behind the call of their guard, a local call behind that of its entry. Reserve, an indirect call and a return are a
+-- call or a jump to the entry page alone. In its long form a skip stands over a jump over a jump, and a branch is
+-- turned round and stands over a jump.
 abbrev pub spelled_length : Unit → Shape → ℕ
 spelled_length (Plain i) shape = instruction_length i
 spelled_length (Store i) shape = call + instruction_length i

@@ -60,8 +60,9 @@ IsGuardedSo sealed (Plain i) = (sealed && is_load i) ≡ false
 IsGuardedSo sealed (Load i) = sealed ≡ true
 IsGuardedSo sealed _ = ⊤
 
--- A list of units that may be loaded, sealed or not. It isn't empty, each unit is of its kind, loads are checked where it is sealed, targets are units, skips are
--- sound, control doesn't run past the end, and the long spelling fits a bank of flash.
+-- A list of units that may be loaded, sealed or not. It isn't empty, each unit is of its kind, loads are checked where
+-- it is sealed, targets are units, skips are sound, control doesn't run past the end, and the long spelling fits a bank
+-- of flash.
 pub record IsProper (us : List Unit) (sealed : Bool) : Type 0 where
   pub some : 0 < length us
   pub kinds : AllByRecursion IsOfKind us

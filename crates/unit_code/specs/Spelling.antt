@@ -36,8 +36,8 @@ branch_form Long set bit jumped branched = LongBranch set bit jumped
 branch_form Short set bit jumped branched = ShortBranch set bit branched
 
 -- The form of the i-th unit, whose template starts at a place, among templates with these starts. The jump of a long
--- skip is the third word of its template and leads over the next unit, that of a long branch is the second word. The jump of a
--- local call stands behind the call of its entry.
+-- skip is the third word of its template and leads over the next unit, that of a long branch is the second word. The
+-- jump of a local call stands behind the call of its entry.
 abbrev pub form_of : List ℕ → ℕ → ℕ → Unit → Shape → Form
 form_of starts i at (Skip x) shape = skip_form shape x (offset_to (at + 2) (start_of starts (i + 2)))
 form_of starts i at (Branch set bit u) shape =

@@ -25,7 +25,8 @@ to_unit (Branching set bit) target = Branch set bit target
 to_unit Jumping target = Jump target
 to_unit Calling target = LocalCall target
 
--- The unit of an item in an image that is sealed or not, with a unit number for its target; none where no unit stands there or its target is none.
+-- The unit of an item in an image that is sealed or not, with a unit number for its target; none where no unit stands
+-- there or its target is none.
 abbrev pub unit_at : Bool → List ℕ → ℕ → Standing → Option Unit
 unit_at sealed places place (Part (Whole u)) = Some (guarded sealed u)
 unit_at sealed places place (Part (Aimed aim offset)) = option_map (to_unit aim) (number_reached places (reached place offset))

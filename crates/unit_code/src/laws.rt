@@ -8,8 +8,8 @@ ghost use Rattle.unit_code.specs.Spelled.{IsSpelled};
 ghost use Rattle.unit_code.specs.Templates.{IsEntry, address_of};
 ghost use Rattle.unit_code.specs.Units.{listed, refusal};
 
-/// Words that are not refused are the instructions of their units, with each target's offset, and the first word of a mark's
-/// unit is the mark. And words that are the instructions of proper units are read as these units.
+/// Words that are not refused are the instructions of their units, with each target's offset, and the first word of a
+/// mark's unit is the mark. And words that are the instructions of proper units are read as these units.
 pub fn one_reading()
     ensures spelled { (words marks : List ℕ) (sealed : Bool) → AllByRecursion (λ word. word < 2 ^ 16) words
         → refusal words marks sealed ≡ None → IsSpelled words marks sealed (listed words marks sealed) }

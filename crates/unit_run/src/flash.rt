@@ -20,8 +20,8 @@ use std::alloc::Global;
 use std::marker::Model;
 use unit_code::Unit;
 
-/// Runs the words of the modules' banks on the processor, one instruction after the other. It keeps the units as well, for
-/// the machine sees them and not the words, and never looks at one to run it.
+/// Runs the words of the modules' banks on the processor, one instruction after the other. It keeps the units as well,
+/// for the machine sees them and not the words, and never looks at one to run it.
 #[derive(Drop)]
 pub struct FlashRunner {
     pub(crate) units: PlainRunner,

@@ -1,4 +1,5 @@
--- When words can be run: each instruction is one that the processor runs, each entry finds what it needs, and they are few enough.
+-- When words can be run: each instruction is one that the processor runs, each entry finds what it needs, and they are
+-- few enough.
 use Rattle.std.specs.Prelude.{◌≡◌, ℕ, zero, suc, ◌<◌, ◌≤◌, nat_le, length, Bool, true, false, Option, Some, None, ⊤}
 use Rattle.avr_machine.specs.Processor.{Processor as CountingProcessor}
 use Rattle.avr_machine.specs.Step.{CanStep}
@@ -48,8 +49,8 @@ CanCall (entry.Slot slot) v run k = CanCallSlot slot v run k
 CanCall entry.SlotIndirect v run k = (slot : ℕ) → indirect_slot k.processor ≡ Some slot → CanCallSlot slot v run k
 CanCall _ v run k = ⊤
 
--- What an entry finds, from a processor whose PC has come to it: SP in the stack, as it was before the CALL, and a template wherever
--- it leads to a unit.
+-- What an entry finds, from a processor whose PC has come to it: SP in the stack, as it was before the CALL, and a
+-- template wherever it leads to a unit.
 abbrev pub CanEnter : Entry → FlashValue → Running → KernelState → CountingProcessor → Type 0
 CanEnter entry.Return v run k c =
     IsOnStack run (without_counter c) × LeadsBack v (returning (with_processor k (without_counter c)) run).answer

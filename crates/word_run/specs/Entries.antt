@@ -49,8 +49,8 @@ ended k ending = record { kernel = k; lines = []; way = Ends ending }
 abbrev pub refused : Rule → ℕ → KernelState → Reached
 refused why address k = ended k (Fault (record { rule = why; address = address }))
 
--- The rows of the entries that are called. Each gets the kernel with SP as it was before the CALL, and the address behind the CALL, to
--- which it returns. What the CALL pushed still stands in the memory.
+-- The rows of the entries that are called. Each gets the kernel with SP as it was before the CALL, and the address
+-- behind the CALL, to which it returns. What the CALL pushed still stands in the memory.
 
 -- a guard, by whether the need of the instruction behind it is met
 abbrev pub guarded : Bool → Rule → ℕ → KernelState → ℕ → Reached
@@ -64,7 +64,8 @@ store_guarded address run k back = guarded (may_store k run address) rule.Store 
 abbrev pub load_guarded : ℕ → Running → KernelState → ℕ → Reached
 load_guarded address run k back = guarded (may_load k run address) rule.Load address k back
 
--- where an instruction behind a guard stores or loads: at q bytes behind a pointer, at a pointer as it stands, or at one that falls first
+-- where an instruction behind a guard stores or loads: at q bytes behind a pointer, at a pointer as it stands, or at
+-- one that falls first
 abbrev pub displaced : Processor → ℕ → ℕ → ℕ
 displaced p pointer q = behind_pointer (at_counter p 0) pointer q
 
@@ -100,8 +101,8 @@ served_way (served.Fault note) back = Ends (Fault note)
 abbrev pub call_served : Serving → ℕ → Reached
 call_served s back = record { kernel = s.kernel; lines = s.lines; way = served_way s.served back }
 
--- A local call goes on at the RJMP behind its CALL, unless something stands against it. It will come back to the unit whose template starts
--- behind that RJMP.
+-- A local call goes on at the RJMP behind its CALL, unless something stands against it. It will come back to the unit
+-- whose template starts behind that RJMP.
 abbrev pub local_way : Option FaultNote → ℕ → Way
 local_way None back = Goes back
 local_way (Some note) back = Ends (Fault note)
@@ -111,8 +112,8 @@ local_from None run k back = ended k Over
 local_from (Some unit) run k back =
     record { kernel = called_within k run unit; lines = []; way = local_way (call_fault k) back }
 
--- A call of a slot goes on at the template of the provider's unit, and will come back to the unit whose template starts behind its CALL; where the
--- slot isn't bound, it returns.
+-- A call of a slot goes on at the template of the provider's unit, and will come back to the unit whose template starts
+-- behind its CALL; where the slot isn't bound, it returns.
 abbrev pub slot_way : SlotEnd → FlashValue → ℕ → Way
 slot_way (slot_end.Entered domain unit) v back = Goes (entry_point v domain unit)
 slot_way slot_end.Unbound v back = Goes back
@@ -164,7 +165,8 @@ called_row (entry.Slot slot) v run k back = slot_called slot v run k back
 called_row entry.SlotIndirect v run k back = indirect_called (indirect_slot k.processor) v run k back
 called_row entry.Return v run k back = ended k Over
 
--- A return is jumped to. It leads to the template of the unit to which the frame on top comes back; without a frame the handler is over.
+-- A return is jumped to. It leads to the template of the unit to which the frame on top comes back; without a frame the
+-- handler is over.
 abbrev pub returned_way : Returned → FlashValue → Way
 returned_way (returned.To domain unit) v = Goes (entry_point v domain unit)
 returned_way returned.Over v = Ends Over

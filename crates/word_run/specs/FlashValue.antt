@@ -9,8 +9,8 @@ use Rattle.unit_code.specs.declared.unit.Unit.{Unit}
 use Rattle.domain_model.specs.State.{RunnerState}
 use Rattle.domain_model.specs.Act.{bank}
 
--- By domain the units of its module, the words of its bank in flash, and the words of the bank at which the templates of the units
--- start; the number of the unit that runs next; and whether each instruction that runs is told.
+-- By domain the units of its module, the words of its bank in flash, and the words of the bank at which the templates
+-- of the units start; the number of the unit that runs next; and whether each instruction that runs is told.
 pub record FlashValue : Type 0 where
   pub banks : List (List Unit)
   pub flash : Banks
@@ -41,8 +41,8 @@ entry_point v domain unit = address_in domain (slice_index (starts_of v domain) 
 abbrev pub unit_at : FlashValue → ℕ → ℕ → Option ℕ
 unit_at v domain address = number_of (starts_of v domain) (address - bank_start domain)
 
--- The words of a bank are the templates of its units side by side, each of them starts behind the one before, and the bank has
--- room for them. (A domain without a module has no units, and no words spell them.)
+-- The words of a bank are the templates of its units side by side, each of them starts behind the one before, and the
+-- bank has room for them. (A domain without a module has no units, and no words spell them.)
 pub record IsSpelledBank (units : List Unit) (words starts : List ℕ) : Type 0 where
   pub sealed : Bool
   pub lays : Lays words sealed units starts
